@@ -2,6 +2,7 @@ mod kind;
 mod pair;
 mod quad;
 mod scalar;
+mod standard;
 mod triple;
 mod write;
 
@@ -9,5 +10,6 @@ pub use kind::Kind;
 pub use pair::PairKind;
 pub use quad::QuadKind;
 pub use scalar::Scalar;
+pub use standard::tuple_parts;
 pub use triple::TripleKind;
 pub use write::write_value;

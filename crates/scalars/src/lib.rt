@@ -1,7 +1,9 @@
 mod bytes;
 mod signed;
+mod standard;
 mod unsigned;
 
+pub use standard::data_types;
 pub use signed::I16Be;
 pub use signed::I16BeKind;
 pub use signed::I16BeScalar;
