@@ -1,0 +1,4 @@
+mod scope;
+
+pub use scope::ReadCtxt;
+pub use scope::ReadScope;
