@@ -36,12 +36,7 @@ pub fn listing(heap: Global, font: &[u8]) -> Result<String, AllocError>
 }
 
 // Appends the lines of the first `count` tables, of which none is cut.
-fn push_tables(
-    heap: Global,
-    out: &mut String,
-    font: &[u8],
-    count: u16,
-) -> Result<(), AllocError>
+fn push_tables(heap: Global, out: &mut String, font: &[u8], count: u16) -> Result<(), AllocError>
     requires { ⌜ record-at count ≤ length (now font) ⌝ }
     ensures { λ r. ⌜ made r (λ _. string-bytes (now (out .exit)) ≡ string-bytes (now (out .entry)) ++ table-lines (now (font .entry)) count) ⌝ }
 {

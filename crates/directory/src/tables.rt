@@ -2,7 +2,7 @@ ghost use mathlib.Core.Path.{_≡_};
 ghost use mathlib.Core.List.{[], _∷_};
 ghost use Prim.Native.Nat.{_+_};
 ghost use lib.Dec.{ltb};
-ghost use lib.ListN.{length};
+ghost use lib.ListN.{length, take, drop};
 ghost use Rattle.refusals.specs.declared.refusal.Refusal.the-variants.{BadEof};
 ghost use Rattle.refusals.specs.Answers.{told, due, judged};
 ghost use Rattle.read.specs.Ctxts.{state, next, take-dues};
@@ -51,8 +51,15 @@ pub fn read_header(font: &[u8]) -> Result<Header, Refusal>
 pub fn read_table(font: &[u8], i: u16) -> Result<TableRecord, Refusal>
     ensures answer { λ r. ⌜ told (λ t. t) r ≡ judged (due BadEof (ltb (length (now (font .entry))) (record-at i + 16)) ∷ []) (table (now (font .entry)) i) ⌝ }
 {
+    record_past(font, 12 + 16 * usize::from(i))
+}
+
+// The record that begins `skipped` bytes into the font.
+fn record_past(font: &[u8], skipped: usize) -> Result<TableRecord, Refusal>
+    ensures answer { λ r. ⌜ told (λ t. t) r ≡ judged (due BadEof (ltb (length (now (font .entry))) (skipped + 16)) ∷ []) (record-of (take 16 (drop skipped (now (font .entry))))) ⌝ }
+{
     let mut ctxt = ReadScope::new(font).ctxt();
-    ctxt.read_slice(12 + 16 * usize::from(i))?;
+    ctxt.read_slice(skipped)?;
     read_record(ctxt)
 }
 
@@ -62,5 +69,10 @@ fn read_record(ctxt: ReadCtxt<'_>) -> Result<TableRecord, Refusal>
 {
     let mut ctxt = ctxt;
     let (tag, checksum, offset, length) = ctxt.read::<(U32Be, U32Be, U32Be, U32Be)>()?;
-    Ok(TableRecord { tag, checksum, offset, length })
+    Ok(TableRecord {
+        tag,
+        checksum,
+        offset,
+        length,
+    })
 }

@@ -23,12 +23,12 @@ module _ {X Y : Type 0} {m n : ℕ} {f : X → Bool} {h : Y → Bool} {p : X →
         ap₂ (λ (x : X) (y : Y). (x, y)) (ap r (take-at (p (v .0)) (q (v .1)) m long) ∙ a .back (v .0) (i .0)) (ap s (drop-at (p (v .0)) (q (v .1)) m long) ∙ b .back (v .1) (i .1));
     whole = λ bs long small.
         and-from _ _
-          (a .whole (take m bs) (length-take m bs ∙ omega arith) (all-take (λ d. d < 256) m bs small))
-          (b .whole (drop m bs) (length-drop m bs ∙ omega arith) (all-drop (λ d. d < 256) m bs small));
+        (a .whole (take m bs) (length-take m bs ∙ omega arith) (all-take (λ d. d < 256) m bs small))
+        (b .whole (drop m bs) (length-drop m bs ∙ omega arith) (all-drop (λ d. d < 256) m bs small));
     again = λ bs long small.
         ap₂ _++_
-          (a .again (take m bs) (length-take m bs ∙ omega arith) (all-take (λ d. d < 256) m bs small))
-          (b .again (drop m bs) (length-drop m bs ∙ omega arith) (all-drop (λ d. d < 256) m bs small))
+        (a .again (take m bs) (length-take m bs ∙ omega arith) (all-take (λ d. d < 256) m bs small))
+        (b .again (drop m bs) (length-drop m bs ∙ omega arith) (all-drop (λ d. d < 256) m bs small))
         ∙ take-append-drop m bs;
   }
 

@@ -19,16 +19,17 @@ pub impl<A: Scalar, B: Scalar, C: Scalar, D: Scalar> Kind for (A, B, C, D) as Qu
     ghost value = { λ bs. (A·Kind .value (take (A·Kind .width) bs), B·Kind .value (take (B·Kind .width) (drop (A·Kind .width) bs)), C·Kind .value (take (C·Kind .width) (drop (B·Kind .width) (drop (A·Kind .width) bs))), D·Kind .value (drop (C·Kind .width) (drop (B·Kind .width) (drop (A·Kind .width) bs)))) };
 
     fn size() -> usize {
-        <A as Scalar>::size() + <B as Scalar>::size() + <C as Scalar>::size() + <D as Scalar>::size()
+        <A as Scalar>::size()
+            + <B as Scalar>::size()
+            + <C as Scalar>::size()
+            + <D as Scalar>::size()
     }
 
     fn fits(v: (A::HostType, B::HostType, C::HostType, D::HostType)) -> bool {
         A::fits(v.0) && B::fits(v.1) && C::fits(v.2) && D::fits(v.3)
     }
 
-    unsafe fn read_unchecked(
-        part: &[u8],
-    ) -> (A::HostType, B::HostType, C::HostType, D::HostType) {
+    unsafe fn read_unchecked(part: &[u8]) -> (A::HostType, B::HostType, C::HostType, D::HostType) {
         let (first, rest) = part.split_at(<A as Scalar>::size());
         let (second, rest) = rest.split_at(<B as Scalar>::size());
         let (third, fourth) = rest.split_at(<C as Scalar>::size());

@@ -16,6 +16,7 @@ pub fn write_value<K: Kind>(memory: &mut [u8], v: K::HostType) -> Result<usize, 
     if memory.len() < n {
         return Err(Refusal::NoSpace);
     }
-    unsafe { K::write_unchecked(v, &mut memory[0..n]) };
+    unsafe { K::write_unchecked(v, &mut memory[0..n]) }
+    ;
     Ok(n)
 }

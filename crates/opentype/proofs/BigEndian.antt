@@ -110,6 +110,6 @@ put-more zero v out pos le = Prim.absurd (omega arith)
 put-more (suc i) v out pos le =
     let lt : i < length out = omega arith in
     rw (suc-sub-one i)
-      (ap (λ (xs : List ℕ). big-endian i (v / 256) ++ xs) (drop-set i (v % 256) out lt)
-      ∙ sym (append-assoc (big-endian i (v / 256)) (v % 256 ∷ []) (drop (suc i) out))
-      ∙ ap (λ (xs : List ℕ). xs ++ drop (suc i) out) (sym (big-endian-push i v)))
+    (ap (λ (xs : List ℕ). big-endian i (v / 256) ++ xs) (drop-set i (v % 256) out lt)
+    ∙ sym (append-assoc (big-endian i (v / 256)) (v % 256 ∷ []) (drop (suc i) out))
+    ∙ ap (λ (xs : List ℕ). xs ++ drop (suc i) out) (sym (big-endian-push i v)))

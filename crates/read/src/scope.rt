@@ -22,21 +22,18 @@ impl<'a> ReadScope<'a> {
         ensures value { λ r. ⌜ view r ≡ scope-over (slice (bytes .entry)) ⌝ }
         ensures sound { λ r. ⌜ Sound (view r) ⌝ }
     {
-        ReadScope { base: 0, data: bytes }
-    }
-
-    // How far from the font's start the scope begins.
-    pub fn base(&self) -> usize
-        ensures value { λ r. ⌜ r ≡ view (now (self .entry)) .base ⌝ }
-    {
-        self.base
+        ReadScope {
+            base: 0,
+            data: bytes,
+        }
     }
 
     // The scope's bytes, which are the caller's own.
     pub fn data(&self) -> &'a [u8]
         ensures value { λ r. ⌜ slice r ≡ view (now (self .entry)) .slice ⌝ }
     {
-        self.data
+        let data = self.data;
+        data
     }
 
     // The scope from `offset` on, which is empty past the end.
@@ -48,7 +45,10 @@ impl<'a> ReadScope<'a> {
             return Err(Refusal::Overflow);
         };
         let from = offset.min(self.data.len());
-        Ok(ReadScope { base, data: &self.data[from..] })
+        Ok(ReadScope {
+            base,
+            data: &self.data[from..],
+        })
     }
 
     // The scope of `length` bytes from `offset` on.
@@ -67,6 +67,9 @@ impl<'a> ReadScope<'a> {
         let Some(base) = self.base.checked_add(offset) else {
             return Err(Refusal::Overflow);
         };
-        Ok(ReadScope { base, data: &self.data[from..from + length] })
+        Ok(ReadScope {
+            base,
+            data: &self.data[from..from + length],
+        })
     }
 }

@@ -1,1 +1,2 @@
 pub mod DataTypes
+pub mod Standard

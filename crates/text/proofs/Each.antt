@@ -16,9 +16,9 @@ each-more f bs i o out next h e n =
     ∙ ap (λ (t : List ℕ). t ++ f (getD bs i 0)) e
     ∙ append-assoc o (each f (take i bs)) (f (getD bs i 0))
     ∙ ap (λ (t : List ℕ). o ++ t)
-        (ap (λ (t : List ℕ). each f (take i bs) ++ t) (sym (append-nil (f (getD bs i 0))))
-        ∙ sym (each-append f (take i bs) (getD bs i 0 ∷ []))
-        ∙ ap (each f) (sym (take-more bs i 0 h)))
+    (ap (λ (t : List ℕ). each f (take i bs) ++ t) (sym (append-nil (f (getD bs i 0))))
+    ∙ sym (each-append f (take i bs) (getD bs i 0 ∷ []))
+    ∙ ap (each f) (sym (take-more bs i 0 h)))
 
 pub each-all : (f : ℕ → List ℕ) (bs : List ℕ) (i : ℕ) (o out : List ℕ) → length bs ≤ i → out ≡ o ++ each f (take i bs) → out ≡ o ++ each f bs
 each-all f bs i o out h e = e ∙ ap (λ (t : List ℕ). o ++ each f t) (take-all i bs h)

@@ -11,22 +11,22 @@ ghost use Rattle.read.specs.Ctxts.{state, start, left, next, next-slice, next-
 use super::ReadScope;
 use kinds::Kind;
 use refusals::Refusal;
+use scalars::I8;
+use scalars::I8Kind;
 use scalars::I16Be;
 use scalars::I16BeKind;
 use scalars::I32Be;
 use scalars::I32BeKind;
 use scalars::I64Be;
 use scalars::I64BeKind;
-use scalars::I8;
-use scalars::I8Kind;
+use scalars::U8;
+use scalars::U8Kind;
 use scalars::U16Be;
 use scalars::U16BeKind;
 use scalars::U32Be;
 use scalars::U32BeKind;
 use scalars::U64Be;
 use scalars::U64BeKind;
-use scalars::U8;
-use scalars::U8Kind;
 
 // A scope and a position in it, which moves on as values are read.
 #[derive(Clone, Copy)]
@@ -41,7 +41,10 @@ impl<'a> ReadScope<'a> {
         ensures value { λ r. ⌜ state r ≡ start (view (now (self .entry))) ⌝ }
         ensures sound { λ r. ⌜ (SoundScope (view (now (self .entry))) → Sound (state r)) ⌝ }
     {
-        ReadCtxt { scope: *self, offset: 0 }
+        ReadCtxt {
+            scope: *self,
+            offset: 0,
+        }
     }
 
     // The value at the scope's start.
@@ -72,7 +75,11 @@ impl<'a> ReadCtxt<'a> {
     pub fn check_version(&self, cond: bool) -> Result<(), Refusal>
         ensures answer { λ r. ⌜ told (λ t. t) r ≡ judged (due BadVersion (not cond) ∷ []) tt ⌝ }
     {
-        if cond { Ok(()) } else { Err(Refusal::BadVersion) }
+        if cond {
+            Ok(())
+        } else {
+            Err(Refusal::BadVersion)
+        }
     }
 
     // The scope of what remains.
@@ -81,7 +88,10 @@ impl<'a> ReadCtxt<'a> {
         ensures sound { λ r. ⌜ (Sound (state (now (self .entry))) → SoundScope (view r)) ⌝ }
     {
         let from = self.offset.min(self.scope.data.len());
-        ReadScope { base: self.scope.base.saturating_add(self.offset), data: &self.scope.data[from..] }
+        ReadScope {
+            base: self.scope.base.saturating_add(self.offset),
+            data: &self.scope.data[from..],
+        }
     }
 
     // Whether a byte remains.
@@ -124,7 +134,10 @@ impl<'a> ReadCtxt<'a> {
         let from = self.offset.min(self.scope.data.len());
         let base = self.scope.base.saturating_add(self.offset);
         self.offset += length;
-        Ok(ReadScope { base, data: &self.scope.data[from..from + length] })
+        Ok(ReadScope {
+            base,
+            data: &self.scope.data[from..from + length],
+        })
     }
 
     // The next value of a kind.

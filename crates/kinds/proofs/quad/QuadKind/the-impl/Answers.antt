@@ -8,7 +8,7 @@ use Rattle.kinds.proofs.quad.QuadKind.the-impl.Needs as need
 pub lawful-law : need.lawful-law
 lawful-law g =
     through (λ w. (w .0, (w .1, (w .2, w .3)))) (λ v. (v .0, v .1 .0, v .1 .1 .0, v .1 .1 .1)) (λ v. refl) (λ w. refl)
-      (beside (g .A·Kind·met .lawful) (beside (g .B·Kind·met .lawful) (beside (g .C·Kind·met .lawful) (g .D·Kind·met .lawful))))
+    (beside (g .A·Kind·met .lawful) (beside (g .B·Kind·met .lawful) (beside (g .C·Kind·met .lawful) (g .D·Kind·met .lawful))))
 
 -- lifetimes side by side lie within others side by side
 meets : (a b c d : Lft) → a ⊑ b → c ⊑ d → a ++ c ⊑ b ++ d
