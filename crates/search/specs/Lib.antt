@@ -1,0 +1,3 @@
+pub mod Orders
+pub mod Halving
+pub mod Found
