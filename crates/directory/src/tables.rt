@@ -1,16 +1,18 @@
 ghost use mathlib.Core.Path.{_≡_};
 ghost use mathlib.Core.List.{[], _∷_};
-ghost use Prim.Native.Nat.{_+_};
 ghost use lib.Dec.{ltb};
-ghost use lib.ListN.{length, take, drop};
+ghost use lib.ListN.{length as many};
+ghost use Rattle.std.specs.Vec.{made};
 ghost use Rattle.refusals.specs.declared.refusal.Refusal.the-variants.{BadEof};
 ghost use Rattle.refusals.specs.Answers.{told, due, judged};
-ghost use Rattle.read.specs.Ctxts.{state, next, take-dues};
-ghost use Rattle.directory.specs.Tables.{extent, record-at, header, record-of, table};
+ghost use Rattle.read.specs.Scopes.{slice};
+ghost use Rattle.arrays.specs.Arrays.{array, Whole};
+ghost use Rattle.directory.specs.Tables.{header, extent, records, table-at};
+use arrays::ReadArray;
+use arrays::read_array;
 use kinds::PairKind;
 use kinds::QuadKind;
 use kinds::TripleKind;
-use read::ReadCtxt;
 use read::ReadScope;
 use refusals::Refusal;
 use scalars::U16Be;
@@ -36,43 +38,64 @@ pub struct TableRecord {
     pub length: u32,
 }
 
-// The font's header, or BadEof if the header or a record is cut.
-pub fn read_header(font: &[u8]) -> Result<Header, Refusal>
-    ensures answer { λ r. ⌜ told (λ h. h) r ≡ judged (due BadEof (ltb (length (now (font .entry))) (extent (now (font .entry)))) ∷ []) (header (now (font .entry))) ⌝ }
+// A table directory: its header, and its records in the font's own bytes.
+#[derive(Drop)]
+pub struct Directory<'a> {
+    header: Header,
+    records: ReadArray<'a, (U32Be, U32Be, U32Be, U32Be)>,
+}
+
+// The font's directory, or BadEof if the header or a record is cut.
+pub fn read_directory(font: &[u8]) -> Result<Directory<'_>, Refusal>
+    ensures header { λ r. ⌜ told (λ d. d .header) r ≡ judged (due BadEof (ltb (many (now (font .entry))) (extent (now (font .entry)))) ∷ []) (header (now (font .entry))) ⌝ }
+    ensures records { λ r. ⌜ made r (λ d. array (d .records) ≡ records (slice (font .entry))) ⌝ }
+    ensures whole { λ r. ⌜ made r (λ d. Whole 16 (array (d .records))) ⌝ }
+{
+    directory_of(font)
+}
+
+fn directory_of(font: &[u8]) -> Result<Directory<'_>, Refusal>
+    ensures header { λ r. ⌜ told (λ d. d .header) r ≡ judged (due BadEof (ltb (many (now (font .entry))) (extent (now (font .entry)))) ∷ []) (header (now (font .entry))) ⌝ }
+    ensures records { λ r. ⌜ made r (λ d. array (d .records) ≡ records (slice (font .entry))) ⌝ }
+    ensures whole { λ r. ⌜ made r (λ d. Whole 16 (array (d .records))) ⌝ }
 {
     let mut ctxt = ReadScope::new(font).ctxt();
-    let (version, count) = ctxt.read::<(U32Be, U16Be)>()?;
-    ctxt.read::<(U16Be, U16Be, U16Be)>()?;
-    ctxt.read_slice(usize::from(count) * 16)?;
-    Ok(Header { version, count })
+    let Ok((version, count)) = ctxt.read::<(U32Be, U16Be)>() else {
+        return Err(Refusal::BadEof);
+    };
+    let Ok(_) = ctxt.read::<(U16Be, U16Be, U16Be)>() else {
+        return Err(Refusal::BadEof);
+    };
+    match read_array(&mut ctxt, usize::from(count)) {
+        Ok(records) => Ok(Directory {
+            header: Header { version, count },
+            records,
+        }),
+        Err(_) => Err(Refusal::BadEof),
+    }
 }
 
-// The record of table `i`, or BadEof if it is cut.
-pub fn read_table(font: &[u8], i: u16) -> Result<TableRecord, Refusal>
-    ensures answer { λ r. ⌜ told (λ t. t) r ≡ judged (due BadEof (ltb (length (now (font .entry))) (record-at i + 16)) ∷ []) (table (now (font .entry)) i) ⌝ }
-{
-    record_past(font, 12 + 16 * usize::from(i))
-}
+impl Directory<'_> {
+    // The directory's header.
+    pub fn header(&self) -> Header
+        ensures value { λ r. ⌜ r ≡ now (self .entry) .header ⌝ }
+    {
+        let header = self.header;
+        header
+    }
 
-// The record that begins `skipped` bytes into the font.
-fn record_past(font: &[u8], skipped: usize) -> Result<TableRecord, Refusal>
-    ensures answer { λ r. ⌜ told (λ t. t) r ≡ judged (due BadEof (ltb (length (now (font .entry))) (skipped + 16)) ∷ []) (record-of (take 16 (drop skipped (now (font .entry))))) ⌝ }
-{
-    let mut ctxt = ReadScope::new(font).ctxt();
-    ctxt.read_slice(skipped)?;
-    read_record(ctxt)
-}
-
-// The record that comes next.
-fn read_record(ctxt: ReadCtxt<'_>) -> Result<TableRecord, Refusal>
-    ensures answer { λ r. ⌜ told (λ t. t) r ≡ judged (take-dues (state (ctxt .entry)) 16) (record-of (next (state (ctxt .entry)) 16)) ⌝ }
-{
-    let mut ctxt = ctxt;
-    let (tag, checksum, offset, length) = ctxt.read::<(U32Be, U32Be, U32Be, U32Be)>()?;
-    Ok(TableRecord {
-        tag,
-        checksum,
-        offset,
-        length,
-    })
+    // The record of table `i`, or none past the last.
+    pub fn table(&self, i: usize) -> Option<TableRecord>
+        ensures value { λ r. ⌜ r ≡ table-at (array (now (self .entry) .records)) i ⌝ }
+    {
+        match self.records.get_item(i) {
+            Some((tag, checksum, offset, length)) => Some(TableRecord {
+                tag,
+                checksum,
+                offset,
+                length,
+            }),
+            None => None,
+        }
+    }
 }
