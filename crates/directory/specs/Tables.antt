@@ -45,3 +45,7 @@ records font = next-array (moved (start (scope-over font)) 12) (count (font .byt
 -- What an array of records says of table i.
 abbrev pub table-at : Array → ℕ → Option TableRecord
 table-at a i = cond (ltb i (a .count) && reaches 16 a i) (Some (record-of (item-bytes 16 a i))) None
+
+-- The same of a whole array, which has every record that it counts.
+abbrev pub table-in : Array → ℕ → TableRecord
+table-in a i = record-of (item-bytes 16 a i)

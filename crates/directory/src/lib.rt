@@ -1,5 +1,7 @@
+mod lines;
 mod tables;
 
+pub use lines::listing;
 pub use tables::Directory;
 pub use tables::Header;
 pub use tables::TableRecord;

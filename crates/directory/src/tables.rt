@@ -1,13 +1,15 @@
 ghost use mathlib.Core.Path.{_≡_};
 ghost use mathlib.Core.List.{[], _∷_};
+ghost use Prim.Native.Nat.{_<_};
 ghost use lib.Dec.{ltb};
 ghost use lib.ListN.{length as many};
 ghost use Rattle.std.specs.Vec.{made};
+ghost use Rattle.std.specs.declared.option.Option.the-variants.{Some};
 ghost use Rattle.refusals.specs.declared.refusal.Refusal.the-variants.{BadEof};
 ghost use Rattle.refusals.specs.Answers.{told, due, judged};
 ghost use Rattle.read.specs.Scopes.{slice};
 ghost use Rattle.arrays.specs.Arrays.{array, Whole};
-ghost use Rattle.directory.specs.Tables.{header, extent, records, table-at};
+ghost use Rattle.directory.specs.Tables.{header, extent, records, table-at, table-in};
 use arrays::ReadArray;
 use arrays::read_array;
 use kinds::PairKind;
@@ -84,9 +86,17 @@ impl Directory<'_> {
         header
     }
 
+    // How many tables there are.
+    pub fn len(&self) -> usize
+        ensures value { λ r. ⌜ r ≡ array (now (self .entry) .records) .count ⌝ }
+    {
+        self.records.len()
+    }
+
     // The record of table `i`, or none past the last.
     pub fn table(&self, i: usize) -> Option<TableRecord>
         ensures value { λ r. ⌜ r ≡ table-at (array (now (self .entry) .records)) i ⌝ }
+        ensures whole { λ r. ⌜ (Whole 16 (array (now (self .entry) .records)) → i < array (now (self .entry) .records) .count → r ≡ Some (table-in (array (now (self .entry) .records)) i)) ⌝ }
     {
         match self.records.get_item(i) {
             Some((tag, checksum, offset, length)) => Some(TableRecord {
