@@ -9,6 +9,7 @@ ghost use Rattle.refusals.specs.declared.refusal.Refusal.the-variants.{BadEof};
 ghost use Rattle.refusals.specs.Answers.{told, due, judged};
 ghost use Rattle.read.specs.Scopes.{slice};
 ghost use Rattle.arrays.specs.Arrays.{array, Whole};
+ghost use Rattle.directory.specs.Tags.{tag-search, Ascending, TagFound};
 ghost use Rattle.directory.specs.Tables.{header, extent, records, table-at, table-in};
 use arrays::ReadArray;
 use arrays::read_array;
@@ -23,6 +24,9 @@ use scalars::U16BeScalar;
 use scalars::U32Be;
 use scalars::U32BeKind;
 use scalars::U32BeScalar;
+use search::FirstNumber;
+use search::QuadProbe;
+use search::binary_search_by;
 
 // The header of a table directory.
 #[derive(Clone, Copy)]
@@ -106,6 +110,25 @@ impl Directory<'_> {
                 length,
             }),
             None => None,
+        }
+    }
+
+    // The number of a table with that tag, by a search among tags that ascend.
+    pub fn find(&self, tag: u32) -> Option<usize>
+        ensures value { λ r. ⌜ r ≡ tag-search (array (now (self .entry) .records)) tag ⌝ }
+        ensures found { λ r. ⌜ (Whole 16 (array (now (self .entry) .records)) → Ascending (array (now (self .entry) .records)) → TagFound (array (now (self .entry) .records)) tag r) ⌝ }
+    {
+        self.search(tag)
+    }
+
+    fn search(&self, tag: u32) -> Option<usize>
+        ensures value { λ r. ⌜ r ≡ tag-search (array (now (self .entry) .records)) tag ⌝ }
+        ensures found { λ r. ⌜ (Whole 16 (array (now (self .entry) .records)) → Ascending (array (now (self .entry) .records)) → TagFound (array (now (self .entry) .records)) tag r) ⌝ }
+    {
+        let probe = FirstNumber::<U32Be>::new(tag);
+        match binary_search_by(&self.records, &probe) {
+            Ok(i) => Some(i),
+            Err(_) => None,
         }
     }
 }

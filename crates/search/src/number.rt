@@ -5,6 +5,7 @@ use kinds::Scalar;
 use std::cmp::Ordering;
 
 // Looks for a number.
+#[derive(Drop)]
 pub struct Number<A: Scalar> {
     want: A::HostType,
 }

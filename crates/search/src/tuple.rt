@@ -9,6 +9,7 @@ use kinds::TripleKind;
 use std::cmp::Ordering;
 
 // Looks for a tuple by its first number.
+#[derive(Drop)]
 pub struct FirstNumber<A: Scalar> {
     want: A::HostType,
 }
