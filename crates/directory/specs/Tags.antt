@@ -1,9 +1,11 @@
 -- Finding a table by its tag, among records whose tags ascend.
 use mathlib.Core.Path.{_≡_}
-use mathlib.Core.List.{List, _++_}
-use Prim.Native.Nat.{ℕ, _-_, _<_, _≤_}
+use mathlib.Core.Bool.{cond}
+use mathlib.Core.List.{List, [], _∷_}
+use Prim.Native.Nat.{ℕ, _<_, _≤_}
+use lib.Dec.{ltb}
 use lib.IntN.{pos}
-use lib.ListN.{length, take, drop, replicate}
+use lib.ListN.{length, getD, take, drop}
 use Rattle.std.specs.declared.cmp.Ordering.{Ordering}
 use Rattle.std.specs.declared.option.Option.{Option}
 use Rattle.std.specs.declared.option.Option.the-variants.{Some, None}
@@ -43,3 +45,12 @@ Ascending a = (i j : ℕ) → i ≤ j → j < a .count → tag-in a i ≤ tag-in
 abbrev pub TagFound : Array → ℕ → Option ℕ → Type 0
 TagFound a tag (Some i) = (i < a .count) × (tag-in a i ≡ tag)
 TagFound a tag None = (i : ℕ) → i < a .count → tag-in a i ≡ tag → ⊥
+
+-- Byte i of a tag that is given as text: a space where the text has ended.
+abbrev pub tag-byte-of : List ℕ → ℕ → ℕ
+tag-byte-of text i = cond (ltb i (length text)) (getD text i 0) 0x20
+
+-- A tag that is given as text of at most four bytes, as a number; a longer text is none.
+abbrev pub tag-number : List ℕ → Option ℕ
+tag-number text =
+    cond (ltb 4 (length text)) None (Some (number-of (tag-byte-of text 0 ∷ tag-byte-of text 1 ∷ tag-byte-of text 2 ∷ tag-byte-of text 3 ∷ [])))

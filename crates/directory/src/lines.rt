@@ -5,12 +5,15 @@ ghost use Rattle.std.specs.Vec.{made};
 ghost use Rattle.opentype.specs.Numbers.{big-endian};
 ghost use Rattle.text.specs.Hexadecimal.{each};
 ghost use Rattle.arrays.specs.Arrays.{array, Whole};
+ghost use Rattle.read.specs.Scopes.{slice};
 ghost use Rattle.directory.specs.Tables.{table-in};
-ghost use Rattle.directory.specs.Listing.{printable, tag-byte, tag-text, hex-number, table-line, header-line, refusal-line, lines-of, listing-of};
+ghost use Rattle.directory.specs.Tags.{tag-number, tag-search};
+ghost use Rattle.directory.specs.Listing.{printable, tag-byte, tag-text, hex-number, table-line, header-line, refusal-line, lines-of, listing-of, line-for, table-found, table-tagged, named-of};
 use crate::tables::Directory;
 use crate::tables::Header;
 use crate::tables::TableRecord;
 use crate::tables::read_directory;
+use crate::tags::tag_from_text;
 use kinds::write_value;
 use refusals::Refusal;
 use scalars::U32Be;
@@ -30,6 +33,51 @@ pub fn listing(heap: Global, font: &[u8]) -> Result<String, AllocError>
             Ok(text)
         }
         Err(e) => refusal_line(heap, e),
+    }
+}
+
+// The line of the table whose tag is given as text, `none`, or a line for a refusal.
+pub fn table_named(heap: Global, font: &[u8], text: &[u8]) -> Result<String, AllocError>
+    ensures { λ r. ⌜ made r (λ s. string-bytes s ≡ named-of (slice (font .entry)) (now (text .entry))) ⌝ }
+{
+    match read_directory(font) {
+        Ok(directory) => {
+            let line = line_named(heap, &directory, text)?;
+            Ok(line)
+        }
+        Err(e) => refusal_line(heap, e),
+    }
+}
+
+// The line of a directory's table whose tag is given as text, or `none`.
+fn line_named(
+    heap: Global,
+    directory: &Directory<'_>,
+    text: &[u8],
+) -> Result<String, AllocError>
+    ensures { λ r. ⌜ made r (λ s. string-bytes s ≡ line-for (table-tagged (array (now (directory .entry) .records)) (tag-number (now (text .entry))))) ⌝ }
+{
+    match tag_from_text(text) {
+        Some(tag) => line_for(heap, table_tagged(directory, tag)),
+        None => line_for(heap, None),
+    }
+}
+
+fn table_tagged(directory: &Directory<'_>, tag: u32) -> Option<TableRecord>
+    ensures value { λ r. ⌜ r ≡ table-found (array (now (directory .entry) .records)) (tag-search (array (now (directory .entry) .records)) tag) ⌝ }
+{
+    match directory.find(tag) {
+        Some(i) => directory.table(i),
+        None => None,
+    }
+}
+
+fn line_for(heap: Global, table: Option<TableRecord>) -> Result<String, AllocError>
+    ensures { λ r. ⌜ made r (λ s. string-bytes s ≡ line-for table) ⌝ }
+{
+    match table {
+        Some(table) => table_line(heap, table),
+        None => format!(heap, "none\n"),
     }
 }
 
