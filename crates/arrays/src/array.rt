@@ -27,7 +27,10 @@ pub struct ReadArray<'a, K> {
 }
 
 // The next `length` items, one right after the other.
-pub fn read_array<'a, K: Kind>(ctxt: &mut ReadCtxt<'a>, length: usize) -> Result<ReadArray<'a, K>, Refusal>
+pub fn read_array<'a, K: Kind>(
+    ctxt: &mut ReadCtxt<'a>,
+    length: usize,
+) -> Result<ReadArray<'a, K>, Refusal>
     ensures answer { λ r. ⌜ told array r ≡ judged (array-dues (state (now (ctxt .entry))) length width) (next-array (state (now (ctxt .entry))) length width) ⌝ }
     ensures after { λ _. ⌜ state (now (ctxt .exit)) ≡ after (array-dues (state (now (ctxt .entry))) length width) (state (now (ctxt .entry))) (moved (state (now (ctxt .entry))) (length * width)) ⌝ }
     ensures whole { λ r. ⌜ made r (λ a. Whole width (array a)) ⌝ }

@@ -39,9 +39,10 @@ impl<'a, K: Kind> ReadArray<'a, K> {
     pub fn iter_res(&self) -> ReadArrayResIter<'a, K>
         ensures value { λ r. ⌜ forward r ≡ over (array (now (self .entry))) ⌝ }
     {
+        let first = 0;
         ReadArrayResIter {
             array: *self,
-            index: 0,
+            index: first,
         }
     }
 }
@@ -76,7 +77,7 @@ impl<'a, K: Kind> ReadArrayIter<'a, K> {
         ensures after { λ _. ⌜ cursor (now (self .exit)) ≡ past-last width value (cursor (now (self .entry))) ⌝ }
         ensures fit { λ r. ⌜ Cases r (Unit {0}) (λ v. fitting v ≡ true) ⌝ }
     {
-        if self.index >= self.end {
+        if self.end <= self.index {
             return None;
         }
         let item = self.array.get_item(self.end - 1);
@@ -100,11 +101,11 @@ impl<'a, K: Kind> ReadArrayResIter<'a, K> {
         ensures answer { λ r. ⌜ told-next r ≡ first-answer width value (forward (now (self .entry))) ⌝ }
         ensures after { λ _. ⌜ forward (now (self .exit)) ≡ past-answer width value (forward (now (self .entry))) ⌝ }
     {
-        if self.index >= self.array.len() {
+        let index = self.index;
+        if index >= self.array.len() {
             return None;
         }
-        let item = self.array.read_item(self.index);
-        self.index += 1;
-        Some(item)
+        self.index = index + 1;
+        Some(self.array.read_item(index))
     }
 }

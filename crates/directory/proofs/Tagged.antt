@@ -33,10 +33,10 @@ same x t h = not-below x t (omega arith) ∙ ap (λ (b : Bool). cond b Greater E
 rises : (x y t : ℕ) → x ≤ y → rank (order (pos x) (pos t)) ≤ rank (order (pos y) (pos t))
 rises x y t h =
     elim (cases-lt x t) [
-      inl p ↦ omega (arith, ap rank (below x t p))
-    | inr p ↦ elim (cases-lt t y) [
-        inl q ↦ omega (arith, ap rank (above y t q), most (order (pos x) (pos t)))
-      | inr q ↦ omega (arith, ap rank (same x t (omega arith)), ap rank (same y t (omega arith)))
+      | inl p ↦ omega (arith, ap rank (below x t p))
+      | inr p ↦ elim (cases-lt t y) [
+        | inl q ↦ omega (arith, ap rank (above y t q), most (order (pos x) (pos t)))
+        | inr q ↦ omega (arith, ap rank (same x t (omega arith)), ap rank (same y t (omega arith)))
       ]
     ]
   where
@@ -49,8 +49,8 @@ rises x y t h =
 equal : (x t : ℕ) → order (pos x) (pos t) ≡ Equal → x ≡ t
 equal x t e =
     elim (cases-lt x t) [
-      inl p ↦ Prim.absurd (omega (arith, ap rank (below x t p), ap rank e))
-    | inr p ↦ elim (cases-lt t x) [ inl q ↦ Prim.absurd (omega (arith, ap rank (above x t q), ap rank e)) | inr q ↦ omega arith ]
+      | inl p ↦ Prim.absurd (omega (arith, ap rank (below x t p), ap rank e))
+      | inr p ↦ elim (cases-lt t x) [ inl q ↦ Prim.absurd (omega (arith, ap rank (above x t q), ap rank e)) | inr q ↦ omega arith ]
     ]
 
 unequal : (x t : ℕ) (o : Ordering) → order (pos x) (pos t) ≡ o → (rank o ≡ 1 → ⊥) → x ≡ t → ⊥
@@ -64,6 +64,6 @@ module _ (a : Array) (tag : ℕ) where
   tag-found (Ok i) f = (f .0, equal (tag-in a i) tag (f .1))
   tag-found (Err p) f = λ i lt.
       elim (cases-lt i p) [
-        inl h ↦ unequal (tag-in a i) tag Less (f .1 i h) (λ z. omega arith)
-      | inr h ↦ unequal (tag-in a i) tag Greater (f .2 i h lt) (λ z. omega arith)
+        | inl h ↦ unequal (tag-in a i) tag Less (f .1 i h) (λ z. omega arith)
+        | inr h ↦ unequal (tag-in a i) tag Greater (f .2 i h lt) (λ z. omega arith)
       ]

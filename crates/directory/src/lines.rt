@@ -27,6 +27,12 @@ use text::push_hex_byte;
 pub fn listing(heap: Global, font: &[u8]) -> Result<String, AllocError>
     ensures { λ r. ⌜ made r (λ s. string-bytes s ≡ listing-of (now (font .entry))) ⌝ }
 {
+    listing_text(heap, font)
+}
+
+fn listing_text(heap: Global, font: &[u8]) -> Result<String, AllocError>
+    ensures { λ r. ⌜ made r (λ s. string-bytes s ≡ listing-of (now (font .entry))) ⌝ }
+{
     match read_directory(font) {
         Ok(directory) => {
             let text = directory_text(heap, &directory)?;
@@ -50,11 +56,7 @@ pub fn table_named(heap: Global, font: &[u8], text: &[u8]) -> Result<String, All
 }
 
 // The line of a directory's table whose tag is given as text, or `none`.
-fn line_named(
-    heap: Global,
-    directory: &Directory<'_>,
-    text: &[u8],
-) -> Result<String, AllocError>
+fn line_named(heap: Global, directory: &Directory<'_>, text: &[u8]) -> Result<String, AllocError>
     ensures { λ r. ⌜ made r (λ s. string-bytes s ≡ line-for (table-tagged (array (now (directory .entry) .records)) (tag-number (now (text .entry))))) ⌝ }
 {
     match tag_from_text(text) {
@@ -92,11 +94,7 @@ fn directory_text(heap: Global, directory: &Directory<'_>) -> Result<String, All
 }
 
 // Appends the lines of all tables.
-fn push_tables(
-    heap: Global,
-    out: &mut String,
-    directory: &Directory<'_>,
-) -> Result<(), AllocError>
+fn push_tables(heap: Global, out: &mut String, directory: &Directory<'_>) -> Result<(), AllocError>
     requires { ⌜ Whole 16 (array (now directory .records)) ⌝ }
     ensures { λ r. ⌜ made r (λ _. string-bytes (now (out .exit)) ≡ string-bytes (now (out .entry)) ++ lines-of (table-in (array (now (directory .entry) .records))) (array (now (directory .entry) .records) .count)) ⌝ }
 {

@@ -42,19 +42,19 @@ module _ (f : ℕ → Option Ordering) (g : ℕ → Ordering) (n : ℕ) (there :
     placed-turn Less e =
         let w = a .within in
         ih (middle l r + 1) r (omega arith)
-          (record { ends = omega arith; within = a .within; under = λ i p. is-less (g i) (omega (arith, runs i (middle l r) (omega arith) (omega arith), ap rank e)); over = a .over })
+        (record { ends = omega arith; within = a .within; under = λ i p. is-less (g i) (omega (arith, runs i (middle l r) (omega arith) (omega arith), ap rank e)); over = a .over })
     placed-turn Equal e = let w = a .within in (omega arith, e)
     placed-turn Greater e =
         let w = a .within in
         ih l (middle l r) (omega arith)
-          (record { ends = omega arith; within = omega arith; under = a .under; over = λ i p q. is-greater (g i) (omega (arith, runs (middle l r) i p q, ap rank e)) })
+        (record { ends = omega arith; within = omega arith; under = a .under; over = λ i p q. is-greater (g i) (omega (arith, runs (middle l r) i p q, ap rank e)) })
 
   placed-by : (k l r : ℕ) → r - l ≤ k → Around l r → Found g n (halves f k l r)
   placed-by zero l r le a = at-end l r (omega arith) a
   placed-by (suc k) l r le a =
       elim (cases-lt l r) [
-        inl lt ↦ let w = a .within in subst (Found g n) (sym (turn f n k l r lt (Some (g (middle l r))) (there (middle l r) (omega arith)))) (placed-turn k (placed-by k) l r le lt a (g (middle l r)) refl)
-      | inr ge ↦ subst (Found g n) (sym (none-by f n (suc k) l r ge)) (at-end l r ge a)
+        | inl lt ↦ let w = a .within in subst (Found g n) (sym (turn f n k l r lt (Some (g (middle l r))) (there (middle l r) (omega arith)))) (placed-turn k (placed-by k) l r le lt a (g (middle l r)) refl)
+        | inr ge ↦ subst (Found g n) (sym (none-by f n (suc k) l r ge)) (at-end l r ge a)
       ]
 
   pub placed : (x : Result ℕ ℕ) → x ≡ halves f n 0 n → Found g n x

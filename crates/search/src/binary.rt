@@ -10,7 +10,10 @@ use std::cmp::Ordering;
 // Looks for an item that the probe calls equal: its index, or the place where one would go in. Where the
 // items run below, equal, above, that is what it finds; elsewhere, and among several equal ones, it
 // answers what the halving comes to.
-pub fn binary_search_by<'a, K: Kind, P: Probe<K>>(items: &ReadArray<'a, K>, probe: &P) -> Result<usize, usize>
+pub fn binary_search_by<'a, K: Kind, P: Probe<K>>(
+    items: &ReadArray<'a, K>,
+    probe: &P,
+) -> Result<usize, usize>
     ensures value { λ r. ⌜ r ≡ halves (asked width value (answers (now (probe .entry))) (array (now (items .entry)))) (array (now (items .entry)) .count) 0 (array (now (items .entry)) .count) ⌝ }
     ensures found { λ r. ⌜ (Whole width (array (now (items .entry))) → Runs (said-of width value (answers (now (probe .entry))) (array (now (items .entry)))) (array (now (items .entry)) .count) → Found (said-of width value (answers (now (probe .entry))) (array (now (items .entry)))) (array (now (items .entry)) .count) r) ⌝ }
 {

@@ -26,7 +26,8 @@ pub impl<A: Scalar, B: Scalar> Probe<(A, B)> for FirstNumber<A> as PairProbe {
     ghost answers = { λ p v. order (A·Scalar .integer (v .0)) (A·Scalar .integer (p .want)) };
 
     fn probe(&self, v: (A::HostType, B::HostType)) -> Ordering {
-        compare(A::to_i128(v.0), A::to_i128(self.want))
+        let (first, _) = v;
+        compare(A::to_i128(first), A::to_i128(self.want))
     }
 }
 
@@ -34,14 +35,18 @@ pub impl<A: Scalar, B: Scalar, C: Scalar> Probe<(A, B, C)> for FirstNumber<A> as
     ghost answers = { λ p v. order (A·Scalar .integer (v .0)) (A·Scalar .integer (p .want)) };
 
     fn probe(&self, v: (A::HostType, B::HostType, C::HostType)) -> Ordering {
-        compare(A::to_i128(v.0), A::to_i128(self.want))
+        let (first, _, _) = v;
+        compare(A::to_i128(first), A::to_i128(self.want))
     }
 }
 
-pub impl<A: Scalar, B: Scalar, C: Scalar, D: Scalar> Probe<(A, B, C, D)> for FirstNumber<A> as QuadProbe {
+pub impl<A: Scalar, B: Scalar, C: Scalar, D: Scalar> Probe<(A, B, C, D)> for FirstNumber<
+    A,
+> as QuadProbe {
     ghost answers = { λ p v. order (A·Scalar .integer (v .0)) (A·Scalar .integer (p .want)) };
 
     fn probe(&self, v: (A::HostType, B::HostType, C::HostType, D::HostType)) -> Ordering {
-        compare(A::to_i128(v.0), A::to_i128(self.want))
+        let (first, _, _, _) = v;
+        compare(A::to_i128(first), A::to_i128(self.want))
     }
 }

@@ -41,8 +41,8 @@ returns-in-Ok-read-array c =
     let said : ℕ → ℕ → Answer Header = λ x y. gives (record { version = x; count = y }) in
     record {
       header =
-        ap₂ said v k
-        ∙ sym (ap (λ (b : Bool). cond b (refuses 1) (gives (header bs))) (le-ltb (length bs) (extent bs) long));
+          ap₂ said v k
+          ∙ sym (ap (λ (b : Bool). cond b (refuses 1) (gives (header bs))) (le-ltb (length bs) (extent bs) long));
       records = third .1 ∙ ap₂ (λ (t : Ctxt) (j : ℕ). next-array t j 16) at-12 same;
       whole = c .in-Ok-read-array .ensures tt .whole;
     }

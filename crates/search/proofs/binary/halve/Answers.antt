@@ -37,8 +37,8 @@ loop-right-again g c =
     let r = c .loop-right .right in
     let mid : l + c .loop-right .size / 2 ≡ middle l r = ap (λ (k : ℕ). l + k / 2) (c .loop-right .inv .0) in
     elim (c .match-probe .came) [
-      in-Less w ↦ (refl, omega (arith, w .right-is), above (λ i. said answers (at i)) _ l r (c .loop-right .inv .2) (omega arith) (says answers at _ _ mid (c .in-Some .v) (c .in-Some .ensures tt .value) Less (w .in-Less .ensures tt .value)) (w .left-is ∙ ap (λ (k : ℕ). k + 1) mid) (w .right-is))
-    | in-Greater w ↦ (refl, omega (arith, w .right-is, mid), below (λ i. said answers (at i)) _ l r (c .loop-right .inv .2) (omega arith) (says answers at _ _ mid (c .in-Some .v) (c .in-Some .ensures tt .value) Greater (w .in-Greater .ensures tt .value)) (w .left-is) (w .right-is ∙ mid))
+      | in-Less w ↦ (refl, omega (arith, w .right-is), above (λ i. said answers (at i)) _ l r (c .loop-right .inv .2) (omega arith) (says answers at _ _ mid (c .in-Some .v) (c .in-Some .ensures tt .value) Less (w .in-Less .ensures tt .value)) (w .left-is ∙ ap (λ (k : ℕ). k + 1) mid) (w .right-is))
+      | in-Greater w ↦ (refl, omega (arith, w .right-is, mid), below (λ i. said answers (at i)) _ l r (c .loop-right .inv .2) (omega arith) (says answers at _ _ mid (c .in-Some .v) (c .in-Some .ensures tt .value) Greater (w .in-Greater .ensures tt .value)) (w .left-is) (w .right-is ∙ mid))
     ]
 
 pub returns-then-left-right : need.returns-then-left-right

@@ -3,7 +3,7 @@ use mathlib.Core.Path.{_∙_}
 use Rattle.read.specs.Scopes.{slice}
 use Rattle.arrays.specs.Arrays.{array}
 use Rattle.directory.proofs.Records.{text-same}
-use Rattle.directory.proofs.lines.listing.Needs as need
+use Rattle.directory.proofs.lines.listing_text.Needs as need
 
 pub returns-in-Continue-text : need.returns-in-Continue-text
 returns-in-Continue-text c =
