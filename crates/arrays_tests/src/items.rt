@@ -6,12 +6,12 @@ use read::ReadScope;
 use refusals::Refusal;
 use refusals::RefusalDebug;
 use refusals::RefusalPartialEq;
-use scalars::U16Be;
-use scalars::U16BeKind;
-use scalars::U16BeScalar;
 use scalars::U8;
 use scalars::U8Kind;
 use scalars::U8Scalar;
+use scalars::U16Be;
+use scalars::U16BeKind;
+use scalars::U16BeScalar;
 use std::test::*;
 
 const SIX: [u8; 6] = [0, 1, 0xAA, 0, 2, 0xBB];
@@ -51,10 +51,19 @@ fn items_are_copied_to_the_front() -> Result<(), Fail> {
 #[test]
 fn whole_strides_are_taken() -> Result<(), Fail> {
     let mut ctxt = ReadScope::new(&SIX).ctxt();
-    check_eq(read_array_stride::<(U8, U8)>(&mut ctxt, 1, 3)?.get_item(0), Some((0, 1)))?;
+    check_eq(
+        read_array_stride::<(U8, U8)>(&mut ctxt, 1, 3)?.get_item(0),
+        Some((0, 1)),
+    )?;
     check_eq(ctxt.scope().data(), &[0, 2, 0xBB])?;
-    check(matches!(read_array_stride::<U16Be>(&mut ctxt, 2, 2), Err(Refusal::BadEof)))?;
-    check(matches!(read_array_stride::<U16Be>(&mut ctxt, 2, 1), Err(Refusal::BadValue)))?;
+    check(matches!(
+        read_array_stride::<U16Be>(&mut ctxt, 2, 2),
+        Err(Refusal::BadEof)
+    ))?;
+    check(matches!(
+        read_array_stride::<U16Be>(&mut ctxt, 2, 1),
+        Err(Refusal::BadValue)
+    ))?;
     check_eq(ctxt.scope().data(), &[0, 2, 0xBB])?;
     check_eq(read_array::<U8>(&mut ctxt, 3)?.last(), Some(0xBB))?;
     check_eq(ctxt.bytes_available(), false)
@@ -63,10 +72,19 @@ fn whole_strides_are_taken() -> Result<(), Fail> {
 #[test]
 fn the_largest_counts() -> Result<(), Fail> {
     let mut ctxt = ReadScope::new(&SIX).ctxt();
-    check(matches!(read_array::<U16Be>(&mut ctxt, 9_223_372_036_854_775_808), Err(Refusal::Overflow)))?;
-    check(matches!(read_array::<U16Be>(&mut ctxt, 9_223_372_036_854_775_807), Err(Refusal::BadEof)))?;
+    check(matches!(
+        read_array::<U16Be>(&mut ctxt, 9_223_372_036_854_775_808),
+        Err(Refusal::Overflow)
+    ))?;
+    check(matches!(
+        read_array::<U16Be>(&mut ctxt, 9_223_372_036_854_775_807),
+        Err(Refusal::BadEof)
+    ))?;
     check(matches!(read_array::<U16Be>(&mut ctxt, 4), Err(Refusal::BadEof)))?;
-    check(matches!(read_array_stride::<U16Be>(&mut ctxt, 2, usize::MAX), Err(Refusal::Overflow)))?;
+    check(matches!(
+        read_array_stride::<U16Be>(&mut ctxt, 2, usize::MAX),
+        Err(Refusal::Overflow)
+    ))?;
     check_eq(ctxt.scope().data().len(), 6)?;
     check_eq(read_array::<U16Be>(&mut ctxt, 0)?.last(), None)?;
     let none: ReadArray<'static, U16Be> = ReadArray::empty();
