@@ -4,7 +4,7 @@ ghost use lib.ListN.{length};
 ghost use Rattle.opentype.specs.Numbers.{big-endian, number-of};
 
 // The number that at most eight bytes write, the most significant first.
-pub fn number(part: &[u8]) -> u64
+pub(crate) fn number(part: &[u8]) -> u64
     requires few { ⌜ length (now part) ≤ 8 ⌝ }
     ensures value { λ r. ⌜ r ≡ number-of (now (part .entry)) ⌝ }
     ensures small { λ r. ⌜ r < 256 ^ length (now (part .entry)) ⌝ }
@@ -17,7 +17,7 @@ pub fn number(part: &[u8]) -> u64
 }
 
 // Fills `out` with as many bytes of `v`, the most significant first.
-pub fn put(v: u64, out: &mut [u8])
+pub(crate) fn put(v: u64, out: &mut [u8])
     ensures bytes { λ _. ⌜ now (out .exit) ≡ big-endian (length (now (out .entry))) v ⌝ }
 {
     let mut left = v;
