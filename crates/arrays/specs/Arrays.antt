@@ -21,6 +21,7 @@ pub record Array : Type 0 where
   pub count : ℕ
   pub stride : ℕ
 
+-- The value of an array of the program.
 abbrev pub array : {K : Type 0} → ReadArray K → Array
 array a = record { scope = view (a .scope); count = a .length; stride = a .stride }
 

@@ -19,6 +19,7 @@ pub record Cursor : Type 0 where
   pub index : ℕ
   pub end : ℕ
 
+-- The value of a cursor of the program.
 abbrev pub cursor : {K : Type 0} → ReadArrayIter K → Cursor
 cursor c = record { array = array (c .array); index = c .index; end = c .end }
 
@@ -57,8 +58,10 @@ told-next (Some r) = Some (told (λ v. v) r)
 told-next None = None
 
 module _ {V : Type 0} (width : ℕ) (value : List ℕ → V) (c : Cursor) where
+  -- what `read_item` answers for the first item still to come, if there is one
   abbrev pub first-answer : Option (Answer V)
   first-answer = cond (ltb (c .index) (c .end)) (Some (read-item-of width value (c .array) (c .index))) None
 
+  -- the cursor once it was given
   abbrev pub past-answer : Cursor
   past-answer = cond (ltb (c .index) (c .end)) (record { array = c .array; index = c .index + 1; end = c .end }) c

@@ -167,6 +167,7 @@ impl<'a, K: Kind> ReadArray<'a, K> {
     pub fn empty() -> ReadArray<'a, K>
         ensures count { λ r. ⌜ array r .count ≡ 0 ⌝ }
         ensures apart { λ r. ⌜ array r .stride ≡ width ⌝ }
+        ensures base { λ r. ⌜ array r .scope .base ≡ 0 ⌝ }
         ensures whole { λ r. ⌜ Whole width (array r) ⌝ }
         ensures sound { λ r. ⌜ SoundScope (array r .scope) ⌝ }
     {

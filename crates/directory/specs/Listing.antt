@@ -68,6 +68,7 @@ abbrev pub table-found : Array → Option ℕ → Option TableRecord
 table-found a (Some i) = table-at a i
 table-found a None = None
 
+-- The same from a tag, if the text was one.
 abbrev pub table-tagged : Array → Option ℕ → Option TableRecord
 table-tagged a (Some tag) = table-found a (tag-search a tag)
 table-tagged a None = None

@@ -15,6 +15,7 @@ pub record Ctxt : Type 0 where
   pub scope : Scope
   pub position : ℕ
 
+-- The value of a context of the program.
 abbrev pub state : ReadCtxt → Ctxt
 state c = record { scope = view (c .scope); position = c .offset }
 

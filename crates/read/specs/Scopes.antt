@@ -29,6 +29,7 @@ pub record Scope : Type 0 where
   pub base : ℕ
   pub slice : Slice
 
+-- The value of a scope of the program.
 abbrev pub view : ReadScope → Scope
 view s = record { base = s .base; slice = slice (s .«data») }
 
