@@ -1,3 +1,5 @@
+#![tactic(auto)]
+
 ghost use Rattle.std.specs.Prelude.{◌≡◌, ◌+◌, ◌≤◌, [], length, replicate, MatchResult};
 ghost use Rattle.refusals.specs.Answers.{told, judged, after};
 ghost use Rattle.context.specs.Contexts.{Grown, Overlaid, Unchanged, space_dues, overlay_dues};

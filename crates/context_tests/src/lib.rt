@@ -1,3 +1,5 @@
+#![tactic(auto)]
+
 // Tests of contexts for writing, at the limits of their space and of what was written. Expected values
 // are from the OpenType specification's data types and from reading the original.
 #[cfg(test)]

@@ -1,3 +1,5 @@
+#![tactic(auto)]
+
 ghost use Rattle.std.specs.Prelude.{◌≡◌, ◌+◌, ◌-◌, ◌≤◌, []};
 ghost use Rattle.opentype.specs.Alignment.{largest};
 ghost use Rattle.counter.specs.Counters.{counted, counter_means};

@@ -1,3 +1,5 @@
+#![tactic(auto)]
+
 use directory::{listing, table_named};
 use std::io::Read;
 use std::{env, io};

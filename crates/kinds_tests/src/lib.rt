@@ -1,3 +1,5 @@
+#![tactic(auto)]
+
 // Tests of refusals, alignment and the data types. Expected values are from the OpenType
 // specification's data types and from the examples of the original's own documentation.
 #[cfg(test)]

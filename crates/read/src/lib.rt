@@ -1,3 +1,5 @@
+#![tactic(auto)]
+
 mod scope;
 
 pub use scope::{ReadCtxt, ReadScope};

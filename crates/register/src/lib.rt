@@ -1,3 +1,5 @@
+#![tactic(auto)]
+
 mod register;
 
 pub use register::{Event, Register, Row, State, Tally};

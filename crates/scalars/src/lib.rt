@@ -1,3 +1,5 @@
+#![tactic(auto)]
+
 mod bytes;
 mod int16;
 mod int32;

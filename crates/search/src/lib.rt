@@ -1,3 +1,5 @@
+#![tactic(auto)]
+
 mod binary;
 mod number;
 mod probe;

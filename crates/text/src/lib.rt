@@ -1,3 +1,5 @@
+#![tactic(auto)]
+
 ghost use Rattle.std.specs.Prelude.{◌≡◌, ◌<◌, [], ◌∷◌, ◌++◌, string_bytes, decimal, OnOk};
 ghost use Rattle.text.specs.Hexadecimal.{nibble, hex_byte, hex};
 

@@ -1,3 +1,5 @@
+#![tactic(auto)]
+
 mod writer;
 
 pub use writer::{Placeholder, Run, Writer};
