@@ -7,8 +7,8 @@ use refusals::Refusal;
 
 // Writes the value to the front of `memory`, and answers how many bytes it took.
 pub fn write_value<K: Kind>(memory: &mut [u8], v: K::HostType) -> Result<usize, Refusal>
-    ensures answer { told (λ n. n) result ≡ judged (write_dues width (fitting v) memory.old) width }
-    ensures memory { memory.new ≡ after (write_dues width (fitting v) memory.old) memory.old (fronted (bytes v) memory.old) }
+    ensures answer { told (λ n. n) result ≡ judged (write_dues K.width (K.fitting v) memory.old) K.width }
+    ensures memory { memory.new ≡ after (write_dues K.width (K.fitting v) memory.old) memory.old (fronted (K.bytes v) memory.old) }
 {
     if !K::fits(v) {
         return Err(Refusal::BadValue);

@@ -6,6 +6,6 @@ use Rattle.kinds.proofs.triple.Tuple3Kind.write_unchecked.Goals as goal
 
 pub returns : goal.returns
 returns g c =
-    let front = c.write-unchecked.new.out in
-    let long : length front ≡ c.size-m.result = ap length c.write-unchecked.ensures.bytes ∙ g.met.A.Kind.lawful.sized c.args.v.0 (and_parts _ _ c.requires.fit).0 ∙ sym c.size-m.ensures.value in
-    record { bytes = put_behind front _ c.write-unchecked-2.new.out c.size-m.result long ∙ ap₂ ◌++◌ c.write-unchecked.ensures.bytes c.write-unchecked-2.ensures.bytes }
+    let front = c.write_unchecked.new.out in
+    let long : length front ≡ c.size-m.result = ap length c.write_unchecked.ensures.bytes ∙ g.met.A.Kind.lawful.sized c.args.v.0 (and_parts _ _ c.requires.fit).0 ∙ sym c.size-m.ensures.value in
+    record { bytes = put_behind front _ c.write_unchecked-2.new.out c.size-m.result long ∙ ap₂ ◌++◌ c.write_unchecked.ensures.bytes c.write_unchecked-2.ensures.bytes }
