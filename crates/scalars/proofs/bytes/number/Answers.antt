@@ -3,11 +3,11 @@ use Rattle.opentype.specs.Numbers.{number_of}
 use Rattle.opentype.proofs.BigEndian.{small_below, number_of_more}
 use Rattle.scalars.proofs.bytes.number.Goals as goal
 
-pub overflow-mul-n : goal.overflow-mul-n
-overflow-mul-n c = record { fits = omega (arith, small_below c.loop-b.n c.loop-b.b-index 7 c.loop-b.invariant.1 (omega arith)) }
+pub overflow_mul-n : goal.overflow_mul-n
+overflow_mul-n c = record { fits = omega (arith, small_below c.loop-b.n c.loop-b.b-index 7 c.loop-b.invariant.1 (omega arith)) }
 
-pub overflow-add-n : goal.overflow-add-n
-overflow-add-n c = let p : c.loop-b.n < 256 ^ 7 = small_below c.loop-b.n c.loop-b.b-index 7 c.loop-b.invariant.1 (omega arith) in search rules
+pub overflow_add-n : goal.overflow_add-n
+overflow_add-n c = let p : c.loop-b.n < 256 ^ 7 = small_below c.loop-b.n c.loop-b.b-index 7 c.loop-b.invariant.1 (omega arith) in search rules
 
 pub loop-b-preserved : goal.loop-b-preserved
 loop-b-preserved c =

@@ -38,8 +38,8 @@ returns-then-left-right g c =
     let e = none_left _ _ c.loop-right.left c.loop-right.right c.loop-right.invariant.2 c.if-left-right.true in
     record { value = e; found = finds g.K.Kind.width g.K.Kind.value (g.P.Probe.answers c.args.probe.now) (array c.args.items.now) _ e }
 
-pub returns-in-default : goal.returns-in-default
-returns-in-default g c =
+pub returns-in_default : goal.returns-in_default
+returns-in_default g c =
     let answers = g.P.Probe.answers c.args.probe.now in
     let at = item g.K.Kind.width g.K.Kind.value (array c.args.items.now) in
     let l = c.loop-right.left in

@@ -15,8 +15,8 @@ add-one-requires c =
     let b = ap length c.loop-i.invariant.1 in
     record { room = omega arith }
 
-pub overflow-add-at : goal.overflow-add-at
-overflow-add-at c = let h = next_within c.loop-i.i c.args.count c.args.length c.loop-i.at c.args.offset (omega arith) c.loop-i.invariant.0 in omega arith
+pub overflow_add-at : goal.overflow_add-at
+overflow_add-at c = let h = next_within c.loop-i.i c.args.count c.args.length c.loop-i.at c.args.offset (omega arith) c.loop-i.invariant.0 in omega arith
 
 pub loop-i-preserved : goal.loop-i-preserved
 loop-i-preserved c =
