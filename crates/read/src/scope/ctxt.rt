@@ -31,8 +31,8 @@ impl<'a> ReadScope<'a> {
 
     // The value at the scope's start.
     pub fn read<K: Kind>(&self) -> Result<K::HostType, Refusal>
-        ensures answer { told (λ v. v) result ≡ judged (take_dues (start (view self.now)) width) (value (next (start (view self.now)) width)) }
-        ensures fit { IfOk result (λ v. fitting v ≡ true) }
+        ensures answer { told (λ v. v) result ≡ judged (take_dues (start (view self.now)) K.width) (K.value (next (start (view self.now)) K.width)) }
+        ensures fit { IfOk result (λ v. K.fitting v ≡ true) }
     {
         self.ctxt().read::<K>()
     }
@@ -124,9 +124,9 @@ impl<'a> ReadCtxt<'a> {
 
     // The next value of a kind.
     pub fn read<K: Kind>(&mut self) -> Result<K::HostType, Refusal>
-        ensures answer { told (λ v. v) result ≡ judged (take_dues (state self.old) width) (value (next (state self.old) width)) }
-        ensures after { state self.new ≡ after (take_dues (state self.old) width) (state self.old) (moved (state self.old) width) }
-        ensures fit { IfOk result (λ v. fitting v ≡ true) }
+        ensures answer { told (λ v. v) result ≡ judged (take_dues (state self.old) K.width) (K.value (next (state self.old) K.width)) }
+        ensures after { state self.new ≡ after (take_dues (state self.old) K.width) (state self.old) (moved (state self.old) K.width) }
+        ensures fit { IfOk result (λ v. K.fitting v ≡ true) }
         ensures sound { Sound (state self.old) → Sound (state self.new) }
     {
         let size = K::size();

@@ -6,7 +6,7 @@ use Rattle.text.proofs.push_hex_bytes.Goals as goal
 
 pub loop-b-preserved : goal.loop-b-preserved
 loop-b-preserved c =
-    each_more hex_byte c.args.bytes.now c.loop-b.b-index (string_bytes c.args.out.now) (string_bytes c.loop-b.out) _ (omega arith) c.loop-b.invariant c.in_ok-push-hex-byte.ensures
+    each_more hex_byte c.args.bytes.now c.loop-b.b-index (string_bytes c.args.out.now) (string_bytes c.loop-b.out) _ (omega arith) c.loop-b.invariant c.in_ok-push_hex_byte.ensures
 
 pub returns : goal.returns
 returns c = each_all hex_byte c.args.bytes.now c.loop-b.b-index (string_bytes c.args.out.now) (string_bytes c.loop-b.out) c.loop-b-test.false c.loop-b.invariant
