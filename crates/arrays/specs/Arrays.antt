@@ -52,8 +52,8 @@ abbrev pub item : {V : Type 0} → ℕ → (List ℕ → V) → Array → ℕ �
 item width value a i = cond (nat_lt i a.count && reaches width a i) (Some (value (item_bytes width a i))) None
 
 -- What asking for an index refuses: BadIndex at or past the count.
-abbrev pub index-dues : Array → ℕ → List (Bool × ℕ)
-index-dues a i = due BadIndex (nat_le a.count i) ∷ []
+abbrev pub index_dues : Array → ℕ → List (Bool × ℕ)
+index_dues a i = due BadIndex (nat_le a.count i) ∷ []
 
 -- What `read_item` answers of any array: BadIndex at or past the count, then BadEof if the bytes do not reach (never in a whole array), else item i.
 abbrev pub read_item_of : {V : Type 0} → ℕ → (List ℕ → V) → Array → ℕ → Answer V

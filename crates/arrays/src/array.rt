@@ -2,7 +2,7 @@ ghost use Rattle.std.specs.Prelude.{◌≡◌, ◌+◌, ◌-◌, ◌*◌, ◌<�
 ghost use Rattle.refusals.specs.Answers.{told, judged, after};
 ghost use Rattle.read.specs.Scopes.{size, Sound as SoundScope};
 ghost use Rattle.read.specs.Ctxts.{state, moved, Sound as SoundCtxt};
-ghost use Rattle.arrays.specs.Arrays.{array, Whole, next_array, array_dues, stride_dues, item, read_item_of, index-dues, items, is_whole, copy_dues, item_bytes, item_place, space_dues};
+ghost use Rattle.arrays.specs.Arrays.{array, Whole, next_array, array_dues, stride_dues, item, read_item_of, index_dues, items, is_whole, copy_dues, item_bytes, item_place, space_dues};
 
 use kinds::Kind;
 use read::{ReadCtxt, ReadScope};
@@ -23,9 +23,9 @@ pub fn read_array<'a, K: Kind>(
     ctxt: &mut ReadCtxt<'a>,
     length: usize,
 ) -> Result<ReadArray<'a, K>, Refusal>
-    ensures answer { told array result ≡ judged (array_dues (state ctxt.old) length width) (next_array (state ctxt.old) length width) }
-    ensures after { state ctxt.new ≡ after (array_dues (state ctxt.old) length width) (state ctxt.old) (moved (state ctxt.old) (length * width)) }
-    ensures whole { IfOk result (λ a. Whole width (array a)) }
+    ensures answer { told array result ≡ judged (array_dues (state ctxt.old) length K.width) (next_array (state ctxt.old) length K.width) }
+    ensures after { state ctxt.new ≡ after (array_dues (state ctxt.old) length K.width) (state ctxt.old) (moved (state ctxt.old) (length * K.width)) }
+    ensures whole { IfOk result (λ a. Whole K.width (array a)) }
     ensures sound { SoundCtxt (state ctxt.old) → SoundCtxt (state ctxt.new) × IfOk result (λ a. SoundScope (array a).scope) }
 {
     take_array(ctxt, length, K::size())
@@ -37,9 +37,9 @@ pub fn read_array_stride<'a, K: Kind>(
     length: usize,
     stride: usize,
 ) -> Result<ReadArray<'a, K>, Refusal>
-    ensures answer { told array result ≡ judged (stride_dues width (state ctxt.old) length stride) (next_array (state ctxt.old) length stride) }
-    ensures after { state ctxt.new ≡ after (stride_dues width (state ctxt.old) length stride) (state ctxt.old) (moved (state ctxt.old) (length * stride)) }
-    ensures whole { IfOk result (λ a. Whole width (array a)) }
+    ensures answer { told array result ≡ judged (stride_dues K.width (state ctxt.old) length stride) (next_array (state ctxt.old) length stride) }
+    ensures after { state ctxt.new ≡ after (stride_dues K.width (state ctxt.old) length stride) (state ctxt.old) (moved (state ctxt.old) (length * stride)) }
+    ensures whole { IfOk result (λ a. Whole K.width (array a)) }
     ensures sound { SoundCtxt (state ctxt.old) → SoundCtxt (state ctxt.new) × IfOk result (λ a. SoundScope (array a).scope) }
 {
     if K::size() > stride {
@@ -92,7 +92,7 @@ impl<'a, K: Kind> ReadArray<'a, K> {
 
     // BadIndex unless there is an item of that index.
     pub fn check_index(&self, index: usize) -> Result<(), Refusal>
-        ensures answer { told (λ t. t) result ≡ judged (index-dues (array self.now) index) tt }
+        ensures answer { told (λ t. t) result ≡ judged (index_dues (array self.now) index) tt }
     {
         if index < self.length {
             Ok(())
@@ -103,9 +103,9 @@ impl<'a, K: Kind> ReadArray<'a, K> {
 
     // The item of that index, or none past the end.
     pub fn get_item(&self, index: usize) -> Option<K::HostType>
-        ensures value { result ≡ item width value (array self.now) index }
-        ensures whole { Whole width (array self.now) → index < (array self.now).count → result ≡ Some (value (item_bytes width (array self.now) index)) }
-        ensures fit { IfSome result (λ v. fitting v ≡ true) }
+        ensures value { result ≡ item K.width K.value (array self.now) index }
+        ensures whole { Whole K.width (array self.now) → index < (array self.now).count → result ≡ Some (K.value (item_bytes K.width (array self.now) index)) }
+        ensures fit { IfSome result (λ v. K.fitting v ≡ true) }
     {
         let Some(from) = self.place(index) else {
             return None;
@@ -116,9 +116,9 @@ impl<'a, K: Kind> ReadArray<'a, K> {
 
     // Where the item of that index begins, if there is one.
     fn place(&self, index: usize) -> Option<usize>
-        ensures value { result ≡ item_place width (array self.now) index }
-        ensures within { IfSome result (λ from. from + width ≤ size (array self.now).scope) }
-        ensures whole { Whole width (array self.now) → index < (array self.now).count → result ≡ Some (index * (array self.now).stride) }
+        ensures value { result ≡ item_place K.width (array self.now) index }
+        ensures within { IfSome result (λ from. from + K.width ≤ size (array self.now).scope) }
+        ensures whole { Whole K.width (array self.now) → index < (array self.now).count → result ≡ Some (index * (array self.now).stride) }
     {
         if index >= self.length {
             return None;
@@ -136,17 +136,17 @@ impl<'a, K: Kind> ReadArray<'a, K> {
 
     // The last item, or none if there are none.
     pub fn last(&self) -> Option<K::HostType>
-        ensures value { result ≡ item width value (array self.now) ((array self.now).count - 1) }
-        ensures fit { IfSome result (λ v. fitting v ≡ true) }
+        ensures value { result ≡ item K.width K.value (array self.now) ((array self.now).count - 1) }
+        ensures fit { IfSome result (λ v. K.fitting v ≡ true) }
     {
         self.get_item(self.length.saturating_sub(1))
     }
 
     // The item of that index, or BadIndex past the end.
     pub fn read_item(&self, index: usize) -> Result<K::HostType, Refusal>
-        ensures answer { told (λ v. v) result ≡ read_item_of width value (array self.now) index }
-        ensures whole { Whole width (array self.now) → told (λ v. v) result ≡ judged (index-dues (array self.now) index) (value (item_bytes width (array self.now) index)) }
-        ensures fit { IfOk result (λ v. fitting v ≡ true) }
+        ensures answer { told (λ v. v) result ≡ read_item_of K.width K.value (array self.now) index }
+        ensures whole { Whole K.width (array self.now) → told (λ v. v) result ≡ judged (index_dues (array self.now) index) (K.value (item_bytes K.width (array self.now) index)) }
+        ensures fit { IfOk result (λ v. K.fitting v ≡ true) }
     {
         self.check_index(index)?;
         match self.get_item(index) {
@@ -158,9 +158,9 @@ impl<'a, K: Kind> ReadArray<'a, K> {
     // An array of no items.
     pub fn empty() -> ReadArray<'a, K>
         ensures count { (array result).count ≡ 0 }
-        ensures apart { (array result).stride ≡ width }
+        ensures apart { (array result).stride ≡ K.width }
         ensures base { (array result).scope.base ≡ 0 }
-        ensures whole { Whole width (array result) }
+        ensures whole { Whole K.width (array result) }
         ensures sound { SoundScope (array result).scope }
     {
         ReadArray {
@@ -173,9 +173,9 @@ impl<'a, K: Kind> ReadArray<'a, K> {
 
     // Copies all items to the front of `out`, and answers how many there are.
     pub fn read_to_vec(&self, out: &mut [K::HostType]) -> Result<usize, Refusal>
-        ensures answer { told (λ n. n) result ≡ judged (copy_dues width (array self.now) (many out.old)) (array self.now).count }
-        ensures whole { Whole width (array self.now) → told (λ n. n) result ≡ judged (space_dues (array self.now) (many out.old)) (array self.now).count }
-        ensures memory { out.new ≡ after (copy_dues width (array self.now) (many out.old)) out.old (items width value (array self.now) ++ drop (array self.now).count out.old) }
+        ensures answer { told (λ n. n) result ≡ judged (copy_dues K.width (array self.now) (many out.old)) (array self.now).count }
+        ensures whole { Whole K.width (array self.now) → told (λ n. n) result ≡ judged (space_dues (array self.now) (many out.old)) (array self.now).count }
+        ensures memory { out.new ≡ after (copy_dues K.width (array self.now) (many out.old)) out.old (items K.width K.value (array self.now) ++ drop (array self.now).count out.old) }
     {
         if out.len() < self.length {
             return Err(Refusal::NoSpace);
@@ -189,8 +189,8 @@ impl<'a, K: Kind> ReadArray<'a, K> {
 
     // Whether the items' strides are the array's bytes.
     fn is_whole(&self) -> bool
-        ensures value { result ≡ is_whole width (array self.now) }
-        ensures whole { Whole width (array self.now) → result ≡ true }
+        ensures value { result ≡ is_whole K.width (array self.now) }
+        ensures whole { Whole K.width (array self.now) → result ≡ true }
     {
         let held = self.scope.data().len();
         match self.length.checked_mul(self.stride) {
@@ -201,9 +201,9 @@ impl<'a, K: Kind> ReadArray<'a, K> {
 
     // Copies the items of a whole array, for which there is space.
     fn copy(&self, out: &mut [K::HostType])
-        requires whole { is_whole width (array self.now) ≡ true }
+        requires whole { is_whole K.width (array self.now) ≡ true }
         requires space { (array self.now).count ≤ many out.old }
-        ensures { out.new ≡ items width value (array self.now) ++ drop (array self.now).count out.old }
+        ensures { out.new ≡ items K.width K.value (array self.now) ++ drop (array self.now).count out.old }
     {
         for i in 0..self.length {
             match self.get_item(i) {

@@ -55,9 +55,9 @@ impl<'a, K: Kind> ReadArrayIter<'a, K> {
 
     // The first item still to come.
     pub fn next(&mut self) -> Option<K::HostType>
-        ensures value { result ≡ first_item width value (cursor self.old) }
-        ensures after { cursor self.new ≡ past_first width value (cursor self.old) }
-        ensures fit { IfSome result (λ v. fitting v ≡ true) }
+        ensures value { result ≡ first_item K.width K.value (cursor self.old) }
+        ensures after { cursor self.new ≡ past_first K.width K.value (cursor self.old) }
+        ensures fit { IfSome result (λ v. K.fitting v ≡ true) }
     {
         if self.index >= self.end {
             return None;
@@ -71,9 +71,9 @@ impl<'a, K: Kind> ReadArrayIter<'a, K> {
 
     // The last item still to come.
     pub fn next_back(&mut self) -> Option<K::HostType>
-        ensures value { result ≡ last_item width value (cursor self.old) }
-        ensures after { cursor self.new ≡ past_last width value (cursor self.old) }
-        ensures fit { IfSome result (λ v. fitting v ≡ true) }
+        ensures value { result ≡ last_item K.width K.value (cursor self.old) }
+        ensures after { cursor self.new ≡ past_last K.width K.value (cursor self.old) }
+        ensures fit { IfSome result (λ v. K.fitting v ≡ true) }
     {
         if self.end <= self.index {
             return None;
@@ -96,8 +96,8 @@ impl<'a, K: Kind> ReadArrayResIter<'a, K> {
 
     // What `read_item` answers for the first item still to come.
     pub fn next(&mut self) -> Option<Result<K::HostType, Refusal>>
-        ensures answer { told_next result ≡ first_answer width value (forward self.old) }
-        ensures after { forward self.new ≡ past_answer width value (forward self.old) }
+        ensures answer { told_next result ≡ first_answer K.width K.value (forward self.old) }
+        ensures after { forward self.new ≡ past_answer K.width K.value (forward self.old) }
     {
         let index = self.index;
         if index >= self.array.len() {
