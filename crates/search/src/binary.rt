@@ -15,16 +15,16 @@ pub fn binary_search_by<'a, K: Kind, P: Probe<K>>(
     items: &ReadArray<'a, K>,
     probe: &P,
 ) -> Result<usize, usize>
-    ensures value { result ≡ halves (asked width value (answers probe.now) (array items.now)) (array items.now).count 0 (array items.now).count }
-    ensures found { Whole width (array items.now) → Runs (said_of width value (answers probe.now) (array items.now)) (array items.now).count → Found (said_of width value (answers probe.now) (array items.now)) (array items.now).count result }
+    ensures value { result ≡ halves (asked K.width K.value (P.answers probe.now) (array items.now)) (array items.now).count 0 (array items.now).count }
+    ensures found { Whole K.width (array items.now) → Runs (said_of K.width K.value (P.answers probe.now) (array items.now)) (array items.now).count → Found (said_of K.width K.value (P.answers probe.now) (array items.now)) (array items.now).count result }
 {
     halve(items, probe)
 }
 
 // Halves what is left until the middle is equal or nothing is left.
 fn halve<'a, K: Kind, P: Probe<K>>(items: &ReadArray<'a, K>, probe: &P) -> Result<usize, usize>
-    ensures value { result ≡ halves (asked width value (answers probe.now) (array items.now)) (array items.now).count 0 (array items.now).count }
-    ensures found { Whole width (array items.now) → Runs (said_of width value (answers probe.now) (array items.now)) (array items.now).count → Found (said_of width value (answers probe.now) (array items.now)) (array items.now).count result }
+    ensures value { result ≡ halves (asked K.width K.value (P.answers probe.now) (array items.now)) (array items.now).count 0 (array items.now).count }
+    ensures found { Whole K.width (array items.now) → Runs (said_of K.width K.value (P.answers probe.now) (array items.now)) (array items.now).count → Found (said_of K.width K.value (P.answers probe.now) (array items.now)) (array items.now).count result }
 {
     let mut size = items.len();
     let mut left = 0;

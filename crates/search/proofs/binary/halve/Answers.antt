@@ -45,7 +45,7 @@ returns-in_default g c =
     let l = c.loop-right.left in
     let r = c.loop-right.right in
     let mid : l + c.loop-right.size / 2 ≡ middle l r = ap (λ (k : ℕ). l + k / 2) c.loop-right.invariant.0 in
-    let e = gone (λ i. said answers (at i)) _ l r c.loop-right.invariant.2 (omega arith) (says_none answers at _ _ mid c.in-default.ensures.value) in
+    let e = gone (λ i. said answers (at i)) _ l r c.loop-right.invariant.2 (omega arith) (says_none answers at _ _ mid c.in_default.ensures.value) in
     record { value = e; found = finds g.K.Kind.width g.K.Kind.value answers (array c.args.items.now) _ e }
 
 pub returns-in-Equal : goal.returns-in-Equal
