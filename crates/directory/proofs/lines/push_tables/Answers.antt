@@ -13,7 +13,7 @@ loop-i-preserved c =
     let out = string_bytes c.args.out.now in
     let there = c.in-Some.ensures.whole c.requires (omega arith) in
     let same : c.in-Some.table ≡ t i = cc in
-    c.in_ok-push-table.ensures
+    c.in_ok-push_table-in-Some.ensures
     ∙ ap₂ (λ (o : List ℕ) (x : TableRecord). o ++ table_line_of x) c.loop-i.invariant same
     ∙ append_assoc out (lines_of t i) (table_line_of (t i))
     ∙ ap (λ (n : ℕ). out ++ lines_of t n) (sym (add-one i))

@@ -8,9 +8,9 @@ pub returns : goal.returns
 returns c =
     let b = c.args.b in
     let out = string_bytes c.args.out.now in
-    let other : printable b ≡ false = sym c.is-printable.ensures ∙ c.if-is-printable.false in
-    let p : string_bytes c.push-str.new.self ≡ out ++ codes "\\x" = c.in_ok-push-str.ensures.bytes in
-    c.in_ok-push-hex-byte.ensures
+    let other : printable b ≡ false = sym c.is_printable.ensures ∙ c.if-is_printable.false in
+    let p : string_bytes c.push_str.new.self ≡ out ++ codes "\\x" = c.in_ok-push_str.ensures.bytes in
+    c.in_ok-push_hex_byte.ensures
     ∙ ap (λ (t : List ℕ). t ++ hex_byte b) p
     ∙ append_assoc out (codes "\\x") (hex_byte b)
     ∙ ap (λ (t : Bool). out ++ cond t (b ∷ []) (codes "\\x" ++ hex_byte b)) (sym other)

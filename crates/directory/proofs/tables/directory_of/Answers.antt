@@ -12,8 +12,8 @@ use Rattle.directory.specs.Tables.{field, header, extent}
 use Rattle.directory.proofs.Records.{version_field, count_field}
 use Rattle.directory.proofs.tables.directory_of.Goals as goal
 
-pub returns-in-Ok-read-array : goal.returns-in-Ok-read-array
-returns-in-Ok-read-array c =
+pub returns-in-Ok-read_array : goal.returns-in-Ok-read_array
+returns-in-Ok-read_array c =
     let s = slice c.args.font in
     let bs = s.bytes in
     let from = start (scope_over s) in
@@ -24,7 +24,7 @@ returns-in-Ok-read-array c =
     let at-12 : state c.read-2.new.self ≡ moved from 12 = c.in-Ok-read.ensures.after ∙ went _ 1 _ _ second.0 ∙ ap (λ (t : Ctxt). moved t 6) at-6 in
     let st = state c.read-2.new.self in
     let n = c.from.result in
-    let third = gave_two (ltb largest (n * 16)) (ltb (left st) (n * 16)) 7 1 (array c.in-Ok-read-array.records) (next_array st n 16) c.in-Ok-read-array.ensures.answer in
+    let third = gave_two (ltb largest (n * 16)) (ltb (left st) (n * 16)) 7 1 (array c.in-Ok-read_array.records) (next_array st n 16) c.in-Ok-read_array.ensures.answer in
     let six : ltb (left from) 6 ≡ false = ap (λ (t : Ctxt). ltb (left t) 6) (sym began) ∙ first.0 in
     let twelve : ltb (left (moved from 6)) 6 ≡ false = ap (λ (t : Ctxt). ltb (left t) 6) (sym at-6) ∙ second.0 in
     let rest : ltb (left (moved from 12)) (n * 16) ≡ false = ap (λ (t : Ctxt). ltb (left t) (n * 16)) (sym at-12) ∙ third.0 in
@@ -38,5 +38,5 @@ returns-in-Ok-read-array c =
           ap₂ said v k
           ∙ sym (ap (λ (b : Bool). cond b (refuses 1) (gives (header bs))) (le-ltb (length bs) (extent bs) long));
       records = third.1 ∙ ap₂ (λ (t : Ctxt) (j : ℕ). next_array t j 16) at-12 same;
-      whole = c.in-Ok-read-array.ensures.whole;
+      whole = c.in-Ok-read_array.ensures.whole;
     }
