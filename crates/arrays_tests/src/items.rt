@@ -47,7 +47,7 @@ fn whole_strides_are_taken(rt: HostRuntime) -> Result<(), Fail> {
         read_array_stride::<(U8, U8)>(&mut ctxt, 1, 3)?.get_item(0),
         Some((0, 1))
     );
-    assert_eq!(rt; ctxt.scope().data(), &[0, 2, 0xBB]);
+    assert_eq!(rt; ctxt.scope().data(), [0, 2, 0xBB].as_slice());
     assert!(rt;
         matches!(
             read_array_stride::<U16Be>(&mut ctxt, 2, 2),
@@ -60,7 +60,7 @@ fn whole_strides_are_taken(rt: HostRuntime) -> Result<(), Fail> {
             Err(Refusal::BadValue)
         )
     );
-    assert_eq!(rt; ctxt.scope().data(), &[0, 2, 0xBB]);
+    assert_eq!(rt; ctxt.scope().data(), [0, 2, 0xBB].as_slice());
     assert_eq!(rt; read_array::<U8>(&mut ctxt, 3)?.last(), Some(0xBB));
     assert_eq!(rt; ctxt.bytes_available(), false);
     Ok(())

@@ -21,10 +21,10 @@ fn a_refused_read_does_not_move(rt: HostRuntime) {
     assert_eq!(rt; ctxt.read_slice(4), Err(Refusal::BadEof));
     assert!(rt; ctxt.read_scope(usize::MAX).is_err());
     assert_eq!(rt; ctxt.read::<(U24Be, I16Be)>(), Err(Refusal::BadEof));
-    assert_eq!(rt; ctxt.read_slice(3), Ok(&[1, 2, 3]));
+    assert_eq!(rt; ctxt.read_slice(3), Ok([1, 2, 3].as_slice()));
     assert_eq!(rt; ctxt.bytes_available(), false);
     assert_eq!(rt; ctxt.read_u8(), Err(Refusal::BadEof));
-    assert_eq!(rt; ctxt.read_slice(0), Ok(&[]));
+    assert_eq!(rt; ctxt.read_slice(0), Ok([].as_slice()));
 }
 
 #[test]
@@ -32,9 +32,9 @@ fn reads_follow_one_another(rt: HostRuntime) -> Result<(), Fail> {
     let mut ctxt = ReadScope::new(&[0, 1, 2, 0xFF, 0xFE, 7, 8, 9]).ctxt();
     assert_eq!(rt; ctxt.read::<(U24Be, I16Be)>(), Ok((0x000102, -2)));
     assert_eq!(rt; ctxt.bytes_available(), true);
-    assert_eq!(rt; ctxt.scope().data(), &[7, 8, 9]);
-    assert_eq!(rt; ctxt.read_scope(2)?.data(), &[7, 8]);
-    assert_eq!(rt; ctxt.scope().data(), &[9]);
+    assert_eq!(rt; ctxt.scope().data(), [7, 8, 9].as_slice());
+    assert_eq!(rt; ctxt.read_scope(2)?.data(), [7, 8].as_slice());
+    assert_eq!(rt; ctxt.scope().data(), [9].as_slice());
     assert_eq!(rt; ctxt.read_u8(), Ok(9));
     assert_eq!(rt; ctxt.scope().data().len(), 0);
     Ok(())
