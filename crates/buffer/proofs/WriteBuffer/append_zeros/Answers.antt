@@ -10,5 +10,5 @@ returns c =
     let n = c.args.count in
     let put : List ℕ = replicate n 0 in
     let long : length put ≡ n = length-replicate {A = ℕ} n 0 in
-    let written = behind_end (buffer c.args.self.now) (buffer c.lay-zeros.new.self) put c.bytes-written-from.result n c.bytes-written-from.ensures.value long c.lay-zeros.ensures.after in
+    let written = behind_end (buffer c.args.self.now) (buffer c.lay_zeros.new.self) put c.bytes_written-from.result n c.bytes_written-from.ensures.value long c.lay_zeros.ensures.after in
     record { memory = written; grown = Grown-appended c.args.self.now _ put (omega arith) written }

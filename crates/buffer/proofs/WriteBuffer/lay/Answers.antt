@@ -8,4 +8,4 @@ pub returns : goal.returns
 returns c =
     let put = c.args.data.now in
     let from = c.args.from in
-    record { after = part_laid (buffer c.args.self.now) from ((from + length put) - from) put c.copy-from-slice.new.self c.copy-from-slice.ensures.after (omega arith) }
+    record { after = part_laid (buffer c.args.self.now) from ((from + length put) - from) put c.copy_from_slice.new.self c.copy_from_slice.ensures.after (omega arith) }

@@ -7,11 +7,11 @@ pub returns : goal.returns
 returns g c =
     let n = c.size-n.result in
     let sized = g.met.K.Kind.lawful.sized c.args.v c.requires.fit in
-    let bytes = c.write-unchecked.ensures.bytes in
-    let long : length c.write-unchecked.new.out ≡ n = ap length bytes ∙ sized ∙ sym c.size-n.ensures.value in
+    let bytes = c.write_unchecked.ensures.bytes in
+    let long : length c.write_unchecked.new.out ≡ n = ap length bytes ∙ sized ∙ sym c.size-n.ensures.value in
     record {
       value = c.size-n.ensures.value;
       most = c.size-n.ensures.most;
       sized = sized;
-      bytes = take_at c.write-unchecked.new.out _ n long ∙ bytes;
+      bytes = take_at c.write_unchecked.new.out _ n long ∙ bytes;
     }

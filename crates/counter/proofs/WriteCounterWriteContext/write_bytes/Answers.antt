@@ -7,5 +7,5 @@ pub returns : goal.returns
 returns c =
     record {
       answer = search rules;
-      after = record { each = λ s h. counted_grown _ _ s c.args.data.now (bytes_of c.args.data.now c.type-inv.data) (search rules) h; less = search rules; kept = tt };
+      after = record { each = λ s h. counted_grown _ _ s c.args.data.now (bytes_of c.args.data.now c.type_inv.data) (search rules) h; less = search rules; kept = tt };
     }
