@@ -11,7 +11,7 @@ fn memory_exactly_full(rt: HostRuntime) {
     assert_eq!(rt; buffer.write_bytes(&[1, 2, 3]), Ok(()));
     assert_eq!(rt; buffer.write_zeros(2), Ok(()));
     assert_eq!(rt; buffer.space(), 0);
-    assert_eq!(rt; buffer.bytes(), &[1, 2, 3, 0, 0]);
+    assert_eq!(rt; buffer.bytes(), [1, 2, 3, 0, 0].as_slice());
     assert_eq!(rt; buffer.write_bytes(&[]), Ok(()));
     assert_eq!(rt; buffer.write_zeros(0), Ok(()));
     assert_eq!(rt; buffer.write_bytes(&[4]), Err(Refusal::NoSpace));
@@ -28,7 +28,7 @@ fn one_byte_short(rt: HostRuntime) {
     assert_eq!(rt; buffer.write_zeros(usize::MAX), Err(Refusal::NoSpace));
     assert_eq!(rt; buffer.len(), 0);
     let back: &[u8] = buffer.into_inner();
-    assert_eq!(rt; back, &[0xEE, 0xEE, 0xEE]);
+    assert_eq!(rt; back, [0xEE, 0xEE, 0xEE].as_slice());
 }
 
 #[test]
@@ -68,7 +68,7 @@ fn laid_within_the_written_bytes(rt: HostRuntime) {
     assert_eq!(rt; buffer.len(), 4);
     assert_eq!(rt; buffer.space(), 2);
     let back: &[u8] = buffer.into_inner();
-    assert_eq!(rt; back, &[9, 2, 7, 8, 0xEE, 0xEE]);
+    assert_eq!(rt; back, [9, 2, 7, 8, 0xEE, 0xEE].as_slice());
 }
 
 #[test]
@@ -81,7 +81,7 @@ fn cleared_memory_stays(rt: HostRuntime) {
     assert_eq!(rt; buffer.space(), 3);
     assert_eq!(rt; buffer.write_at(0, &[5]), Err(Refusal::PlaceholderMismatch));
     assert_eq!(rt; buffer.write_bytes(&[4]), Ok(()));
-    assert_eq!(rt; buffer.bytes(), &[4]);
+    assert_eq!(rt; buffer.bytes(), [4].as_slice());
     let back: &[u8] = buffer.into_inner();
-    assert_eq!(rt; back, &[4, 2, 0xEE]);
+    assert_eq!(rt; back, [4, 2, 0xEE].as_slice());
 }

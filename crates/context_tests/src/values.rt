@@ -24,7 +24,7 @@ fn values_follow_one_another(rt: HostRuntime) {
         write_scope(&mut buffer, ReadScope::new(&[1])),
         Err(Refusal::NoSpace)
     );
-    assert_eq!(rt; buffer.bytes(), &[1, 2, 3, 0xFF, 0xFE, 7, 8, 9]);
+    assert_eq!(rt; buffer.bytes(), [1, 2, 3, 0xFF, 0xFE, 7, 8, 9].as_slice());
 }
 
 #[test]
@@ -45,7 +45,7 @@ fn a_value_that_does_not_fit_is_refused_first(rt: HostRuntime) {
     );
     assert_eq!(rt; buffer.len(), 0);
     let back: &[u8] = buffer.into_inner();
-    assert_eq!(rt; back, &[0xEE, 0xEE]);
+    assert_eq!(rt; back, [0xEE, 0xEE].as_slice());
 }
 
 #[test]
@@ -70,7 +70,7 @@ fn values_laid_over_others(rt: HostRuntime) {
         Err(Refusal::PlaceholderMismatch)
     );
     let back: &[u8] = buffer.into_inner();
-    assert_eq!(rt; back, &[0, 1, 4, 5, 6, 0xEE]);
+    assert_eq!(rt; back, [0, 1, 4, 5, 6, 0xEE].as_slice());
 }
 
 #[test]

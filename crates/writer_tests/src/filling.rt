@@ -20,7 +20,7 @@ fn a_place_filled_late(rt: HostRuntime) -> Result<(), Fail> {
     assert_eq!(rt; filled, Ok(()));
     assert_eq!(rt; w.finish(), Ok(6));
     let back: &[u8] = w.into_inner().into_inner();
-    assert_eq!(rt; back, &[0x0A, 0x0B, 0, 0, 0, 7, 0xEE, 0xEE]);
+    assert_eq!(rt; back, [0x0A, 0x0B, 0, 0, 0, 7, 0xEE, 0xEE].as_slice());
     Ok(())
 }
 
@@ -49,7 +49,7 @@ fn the_kind_is_chosen_at_the_fill(rt: HostRuntime) -> Result<(), Fail> {
     assert_eq!(rt; reserved, Ok(()));
     assert_eq!(rt; w.finish(), Ok(4));
     let back: &[u8] = w.into_inner().into_inner();
-    assert_eq!(rt; back, &[0xFF, 0xFE, 1, 2]);
+    assert_eq!(rt; back, [0xFF, 0xFE, 1, 2].as_slice());
     Ok(())
 }
 
@@ -65,7 +65,7 @@ fn a_shorter_scope_keeps_its_zeros(rt: HostRuntime) -> Result<(), Fail> {
     assert_eq!(rt; one, Ok(()));
     assert_eq!(rt; w.finish(), Ok(6));
     let back: &[u8] = w.into_inner().into_inner();
-    assert_eq!(rt; back, &[1, 2, 3, 0, 9, 0, 0xEE, 0xEE]);
+    assert_eq!(rt; back, [1, 2, 3, 0, 9, 0, 0xEE, 0xEE].as_slice());
     Ok(())
 }
 
@@ -78,7 +78,7 @@ fn a_scope_too_long_spoils_its_place(rt: HostRuntime) -> Result<(), Fail> {
     assert_eq!(rt; five, Err(Refusal::PlaceholderMismatch));
     assert_eq!(rt; w.finish(), Err(Refusal::Unfilled));
     let back: &[u8] = w.into_inner().into_inner();
-    assert_eq!(rt; back, &[0, 0, 0, 0]);
+    assert_eq!(rt; back, [0, 0, 0, 0].as_slice());
     Ok(())
 }
 

@@ -24,7 +24,7 @@ fn items_of_a_run(rt: HostRuntime) -> Result<(), Fail> {
     assert_eq!(rt; w.write_placeholder_item::<U16Be>(run, 1, 0x0304), Ok(()));
     assert_eq!(rt; w.finish(), Ok(6));
     let back: &[u8] = w.into_inner().into_inner();
-    assert_eq!(rt; back, &[1, 2, 3, 4, 5, 6]);
+    assert_eq!(rt; back, [1, 2, 3, 4, 5, 6].as_slice());
     Ok(())
 }
 
@@ -60,7 +60,7 @@ fn made_up_runs_are_judged(rt: HostRuntime) -> Result<(), Fail> {
     assert_eq!(rt; w.write_placeholder_item::<U8>(run, 0, 4), Ok(()));
     assert_eq!(rt; w.finish(), Ok(2));
     let back: &[u8] = w.into_inner().into_inner();
-    assert_eq!(rt; back, &[4, 5, 0xEE]);
+    assert_eq!(rt; back, [4, 5, 0xEE].as_slice());
     Ok(())
 }
 
@@ -80,6 +80,6 @@ fn a_refused_fill_spoils_its_place(rt: HostRuntime) -> Result<(), Fail> {
     assert_eq!(rt; w.abandon_item(run, 0), Err(Refusal::NoPlace));
     assert_eq!(rt; w.finish(), Err(Refusal::Unfilled));
     let back: &[u8] = w.into_inner().into_inner();
-    assert_eq!(rt; back, &[0, 0, 0, 0xEE]);
+    assert_eq!(rt; back, [0, 0, 0, 0xEE].as_slice());
     Ok(())
 }

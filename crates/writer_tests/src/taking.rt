@@ -54,7 +54,7 @@ fn a_writer_goes_on_behind_what_was_written(rt: HostRuntime) -> Result<(), Fail>
     assert_eq!(rt; w.write_placeholder_item::<U8>(run, 0, 6), Ok(()));
     assert_eq!(rt; w.finish(), Ok(3));
     let back: &[u8] = w.into_inner().into_inner();
-    assert_eq!(rt; back, &[9, 6, 7, 0xEE]);
+    assert_eq!(rt; back, [9, 6, 7, 0xEE].as_slice());
     Ok(())
 }
 
