@@ -1,5 +1,5 @@
 -- A whole array has each of its items; and the step of a loop that copies them.
-use Rattle.std.proofs.Common.{◌≡◌, ℕ, zero, suc, ◌+◌, ◌*◌, ◌<◌, ◌≤◌, Bool, true, cond, ◌&&◌, List, [], ◌∷◌, ◌++◌, map, length, get_or, drop, set, Some, None, Option, sym, refl, ap, ◌∙◌, ap₂, append_assoc, mul-le-mul_right, suc-mul, zero-add, add-one, arith, drop-cons, lt-ltb, eqb-true, le-leb, leb-true}
+use Rattle.std.proofs.Common.{◌≡◌, ℕ, suc, ◌+◌, ◌*◌, ◌<◌, ◌≤◌, Bool, true, cond, List, [], ◌∷◌, ◌++◌, map, length, get_or, drop, set, Some, None, sym, ap, ◌∙◌, ap₂, append_assoc, mul-le-mul_right, suc-mul, zero-add, add-one, arith, drop-cons, lt-ltb, eqb-true, le-leb, leb-true}
 use Rattle.std.proofs.lemmas.List.{set_at}
 use Rattle.std.proofs.lemmas.Bool.{and_parts, and_from}
 use Rattle.std.proofs.lemmas.List.FromFn.{map-range_with_len_more, length-map-range_with_len}

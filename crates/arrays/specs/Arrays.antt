@@ -1,5 +1,5 @@
 -- Arrays of a kind: items that lie a stride apart.
-use Rattle.std.specs.Prelude.{◌≡◌, ℕ, ◌+◌, ◌*◌, ◌≤◌, Bool, cond, not, ◌&&◌, List, [], ◌∷◌, ◌++◌, map, length, take, drop, Some, None, Option, ◌==◌, nat_le, nat_lt}
+use Rattle.std.specs.Prelude.{◌≡◌, ℕ, ◌+◌, ◌*◌, ◌≤◌, Bool, cond, not, ◌&&◌, List, [], ◌∷◌, map, take, drop, Some, None, Option, ◌==◌, nat_le, nat_lt}
 use Rattle.std.specs.List.{range_with_len}
 use Rattle.refusals.specs.declared.refusal.Refusal.TheVariants.{BadEof, BadIndex, BadValue, Overflow, NoSpace}
 use Rattle.refusals.specs.Answers.{Answer, due, judged}

@@ -1,5 +1,5 @@
 -- A string of so many bytes, grown or overlaid by bytes, is one again.
-use Rattle.std.proofs.Common.{◌≡◌, ℕ, ◌+◌, ◌<◌, ◌≤◌, List, ◌++◌, length, get_or, take, drop, refl, ap, ◌∙◌, arith, length-append, length-drop, length-take, w8, Fits}
+use Rattle.std.proofs.Common.{◌≡◌, ℕ, ◌+◌, ◌<◌, ◌≤◌, List, ◌++◌, length, get_or, take, arith, length-append, length-drop, length-take, w8, Fits}
 use Rattle.std.proofs.ByRecursion.{All-from_get_or, All-append, All-take, All-drop}
 use Rattle.opentype.specs.Numbers.{Bytes}
 use Rattle.context.specs.Contexts.{overlaid}

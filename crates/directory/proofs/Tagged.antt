@@ -1,5 +1,5 @@
 -- Among tags that ascend, the search finds one that is equal, or there is none.
-use Rattle.std.proofs.Common.{◌≡◌, ℕ, ◌<◌, ◌≤◌, Bool, true, false, cond, ltb, pos, Ok, Err, Result, Ordering, Less, Equal, Greater, sym, refl, ap, ◌∙◌, subst, inl, inr, arith, le-ltb, lt-ltb}
+use Rattle.std.proofs.Common.{◌≡◌, ℕ, ◌<◌, ◌≤◌, Bool, cond, ltb, pos, Ok, Err, Result, Ordering, Less, Equal, Greater, sym, ap, ◌∙◌, inl, inr, arith, le-ltb, lt-ltb}
 use Rattle.std.proofs.lemmas.Bool.{cases_lt}
 use Rattle.arrays.specs.Arrays.{Array}
 use Rattle.search.specs.Orders.{rank, order}

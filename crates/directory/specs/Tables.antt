@@ -3,10 +3,9 @@ use Rattle.std.specs.Prelude.{ℕ, ◌+◌, ◌*◌, cond, ◌&&◌, List, take,
 use Rattle.opentype.specs.Numbers.{number_of}
 use Rattle.read.specs.Scopes.{Slice, scope_over}
 use Rattle.read.specs.Ctxts.{start, moved}
-use Rattle.arrays.specs.Arrays.{Array, array, next_array, reaches, item_bytes}
+use Rattle.arrays.specs.Arrays.{Array, next_array, reaches, item_bytes}
 use Rattle.directory.specs.declared.tables.Header.{Header}
 use Rattle.directory.specs.declared.tables.TableRecord.{TableRecord}
-use Rattle.directory.specs.declared.tables.Directory.{Directory}
 
 -- The number in the n bytes from o on.
 abbrev pub field : List ℕ → ℕ → ℕ → ℕ

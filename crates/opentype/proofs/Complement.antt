@@ -1,5 +1,5 @@
 -- Two's complement in n bytes is what the language's casts between signed and unsigned numbers compute, and undoes itself.
-use Rattle.std.proofs.Common.{◌≡◌, ℕ, suc, ◌+◌, ◌-◌, ◌*◌, ◌/◌, ◌^◌, ◌<◌, Bool, true, false, cond, ltb, List, length, ℤ, pos, negsuc, sym, refl, ap, ◌∙◌, subst, add-one, arith, SFits, to_z, of_z, ltb-true, lt-ltb}
+use Rattle.std.proofs.Common.{◌≡◌, ℕ, suc, ◌+◌, ◌-◌, ◌/◌, ◌^◌, ◌<◌, Bool, true, false, cond, ltb, List, length, ℤ, pos, negsuc, sym, refl, ap, ◌∙◌, subst, add-one, SFits, to_z, of_z, ltb-true, lt-ltb}
 use mir.Syntax.{Width}
 use mir.ValLaws.{of_z_fits, to_z-Fits}
 use mir.Val.{bits, hbits, sel}

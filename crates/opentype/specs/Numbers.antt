@@ -1,5 +1,5 @@
 -- The number formats of the OpenType data types: unsigned and two's complement numbers of n bytes, the most significant byte first.
-use Rattle.std.specs.Prelude.{◌≡◌, ℕ, zero, suc, ◌+◌, ◌-◌, ◌*◌, ◌/◌, ◌%◌, ◌^◌, ◌<◌, Bool, cond, List, [], ◌∷◌, length, ℤ, pos, negsuc, nat_lt}
+use Rattle.std.specs.Prelude.{ℕ, zero, suc, ◌+◌, ◌-◌, ◌*◌, ◌/◌, ◌%◌, ◌^◌, ◌<◌, Bool, cond, List, [], ◌∷◌, length, ℤ, pos, negsuc, nat_lt}
 use Rattle.std.specs.List.{AllByRecursion as All}
 
 -- Each number of the list is a byte.

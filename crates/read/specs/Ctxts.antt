@@ -1,5 +1,5 @@
 -- Contexts for reading: a scope and a position in it.
-use Rattle.std.specs.Prelude.{ℕ, ◌+◌, ◌-◌, ◌≤◌, min, Bool, List, [], ◌∷◌, length, take, drop, nat_lt}
+use Rattle.std.specs.Prelude.{ℕ, ◌+◌, ◌-◌, ◌≤◌, min, Bool, List, [], ◌∷◌, take, drop, nat_lt}
 use Rattle.refusals.specs.declared.refusal.Refusal.TheVariants.{BadEof}
 use Rattle.refusals.specs.Answers.{due}
 use Rattle.read.specs.declared.scope.ctxt.ReadCtxt.{ReadCtxt}

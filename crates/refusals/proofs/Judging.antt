@@ -1,6 +1,6 @@
 -- What an answer tells of the refusal that was judged before it.
-use Rattle.std.proofs.Common.{◌≡◌, ℕ, Bool, true, false, [], ◌∷◌, refl, ap, arith}
-use Rattle.refusals.specs.Answers.{Answer, gives, refuses, judged, after}
+use Rattle.std.proofs.Common.{◌≡◌, ℕ, Bool, true, false, [], ◌∷◌, refl, arith}
+use Rattle.refusals.specs.Answers.{gives, judged, after}
 
 -- a value is given only if the refusal is not due
 pub gave : {X : Type 0} (b : Bool) (n : ℕ) (x y : X) → gives x ≡ judged ((b, n) ∷ []) y → (b ≡ false) × (x ≡ y)

@@ -1,6 +1,6 @@
 -- How a call answers. Every contract that can refuse is written with these words: a list of refusals
 -- with their conditions, in the order in which the call judges them, and what it gives if none is due.
-use Rattle.std.specs.Prelude.{ℕ, Bool, true, false, cond, List, [], ◌∷◌, Ok, Err, Result}
+use Rattle.std.specs.Prelude.{ℕ, Bool, cond, List, [], ◌∷◌, Ok, Err, Result}
 use Rattle.refusals.specs.declared.refusal.Refusal.{Refusal}
 use Rattle.refusals.specs.Refusals.{number_of}
 

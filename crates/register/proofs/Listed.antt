@@ -1,12 +1,12 @@
 -- The rows taken are a front of the array of rows: what is read, marked and added there.
-use Rattle.std.proofs.Common.{◌≡◌, ℕ, zero, suc, ◌+◌, ◌*◌, ◌<◌, ◌≤◌, Bool, true, false, cond, ◌&&◌, ◌||◌, ltb, ◌⊎◌, List, [], ◌∷◌, ◌++◌, length, get_or, take, set, Some, None, Option, sym, refl, ap, ◌∙◌, inl, inr, mul-le-mul_right, suc-mul, zero-mul, add-one, arith, le-ltb, lt-ltb}
-use Rattle.std.proofs.lemmas.List.{length-take-le, get_or-take, take_more_set, set_past, append_assoc, append-nil, length-append}
+use Rattle.std.proofs.Common.{◌≡◌, ℕ, zero, suc, ◌+◌, ◌*◌, ◌<◌, ◌≤◌, Bool, true, false, cond, ◌&&◌, ◌||◌, ltb, ◌⊎◌, List, [], ◌∷◌, ◌++◌, length, get_or, take, set, Some, None, sym, refl, ap, ◌∙◌, inl, inr, mul-le-mul_right, suc-mul, zero-mul, add-one, arith, le-ltb, lt-ltb}
+use Rattle.std.proofs.lemmas.List.{length-take-le, get_or-take, take_more_set, set_past, append_assoc}
 use Rattle.opentype.specs.Alignment.{largest}
 use Rattle.register.specs.declared.register.State.{State}
 use Rattle.register.specs.declared.register.State.TheVariants.{Open, Filled, Spoiled}
 use Rattle.register.specs.declared.register.Event.{Event}
 use Rattle.register.specs.declared.register.Row.{Row}
-use Rattle.register.specs.Rows.{opened, turned, stepped, open?, row, waits, open_at, struck, lacking, in_a_row, added}
+use Rattle.register.specs.Rows.{opened, stepped, open?, row, waits, open_at, struck, lacking, in_a_row, added}
 
 take-set : {A : Type 0} (t : ℕ) (xs : List A) (n : ℕ) (a : A) → take t (set xs n a) ≡ set (take t xs) n a
 take-set zero [] n a = refl

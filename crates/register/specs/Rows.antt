@@ -1,5 +1,5 @@
 -- The register of places, as the list of the rows taken; a place's number is its index there.
-use Rattle.std.specs.Prelude.{◌≡◌, ℕ, zero, suc, ◌+◌, ◌*◌, Bool, true, false, cond, ◌&&◌, ◌||◌, List, [], ◌∷◌, ◌++◌, length, take, Some, None, Option, nat_lt, slice_index_or, slice_set}
+use Rattle.std.specs.Prelude.{ℕ, zero, suc, ◌+◌, ◌*◌, Bool, true, false, cond, ◌&&◌, ◌||◌, List, [], ◌∷◌, ◌++◌, length, take, Some, None, Option, nat_lt, slice_index_or, slice_set}
 use Rattle.opentype.specs.Alignment.{largest}
 use Rattle.register.specs.declared.register.State.{State}
 use Rattle.register.specs.declared.register.State.TheVariants.{Open, Filled, Spoiled}

@@ -1,9 +1,6 @@
 -- The places of a log: the bytes that their takings added.
-use Rattle.std.specs.Prelude.{◌≡◌, ℕ, ◌+◌, List, [], ◌∷◌, length, slice_index_or}
-use Rattle.register.specs.declared.register.State.{State}
-use Rattle.register.specs.declared.register.State.TheVariants.{Open, Filled, Spoiled}
-use Rattle.register.specs.declared.register.Row.{Row}
-use Rattle.runs.specs.Straight.{Fate, waiting, holds, keeps, lost, Part, piece, hole, piece_bytes}
+use Rattle.std.specs.Prelude.{ℕ, ◌+◌, List, [], ◌∷◌, length, slice_index_or}
+use Rattle.runs.specs.Straight.{Part, piece, hole, piece_bytes}
 
 -- The bytes of a place: where the first stands, and how many there are.
 pub record Place : Type 0 where

@@ -3,7 +3,7 @@ use Rattle.std.specs.Prelude.{◌≡◌, ℕ, zero, suc, ◌*◌, List, [], ◌�
 use Rattle.refusals.specs.Answers.{gives, judged, after}
 use Rattle.read.specs.Ctxts.{Ctxt, left, next, next_slice, take_dues, moved}
 use Rattle.arrays.specs.Arrays.{next_array, array_dues, item}
-use Rattle.runs.specs.Calls.{Item, Piece, value, items, bytes, zeros}
+use Rattle.runs.specs.Calls.{Item, value, items, bytes, zeros}
 use Rattle.runs.specs.Straight.{waiting, holds, keeps, lost, Part, piece, hole, padded}
 
 -- `read` of the item's kind gives its value.

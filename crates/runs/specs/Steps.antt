@@ -7,7 +7,7 @@ use Rattle.context.specs.Contexts.{Context, Grown, Overlaid, Unchanged}
 use Rattle.register.specs.declared.register.State.TheVariants.{Filled, Spoiled}
 use Rattle.register.specs.declared.register.Row.{Row}
 use Rattle.register.specs.Rows.{row, waits, turn, lacking, in_a_row, tallied, state_count, is_filled}
-use Rattle.runs.specs.Calls.{Item, Kept, Piece, value, items, bytes, zeros, Taking, placeholder, placeholder_array, reserve, Target, token, run_item, Call, adds, takes, fills, fills_dep, abandons, finishes, tallies, Given, nothing, place, run, written, tally, Entry, Log, none, then}
+use Rattle.runs.specs.Calls.{Item, Piece, value, items, bytes, zeros, Taking, placeholder, placeholder_array, reserve, Target, token, run_item, Call, adds, takes, fills, fills_dep, abandons, finishes, tallies, Given, nothing, place, run, written, tally}
 use Rattle.runs.specs.Counts.{count_of, width_of, number, spoils_place}
 use Rattle.runs.specs.Straight.{piece_bytes}
 

@@ -1,7 +1,7 @@
 -- Straight writing: what a log would have written if every place had been known when it was taken.
-use Rattle.std.specs.Prelude.{ℕ, zero, suc, ◌-◌, Bool, cond, List, [], ◌∷◌, ◌++◌, length, replicate}
+use Rattle.std.specs.Prelude.{ℕ, zero, suc, ◌-◌, cond, List, [], ◌∷◌, ◌++◌, length, replicate}
 use Rattle.refusals.specs.Answers.{Answer}
-use Rattle.runs.specs.Calls.{Item, Piece, value, items, bytes, zeros, Taking, Call, adds, takes, fills, fills_dep, abandons, finishes, tallies, Given, Log, none, then}
+use Rattle.runs.specs.Calls.{Item, Piece, value, items, bytes, zeros, Call, adds, takes, fills, fills_dep, abandons, finishes, tallies, Given, Log, none, then}
 use Rattle.runs.specs.Counts.{count_of, width_of, number, accepted, spoiling}
 
 -- What became of a place: it waits, holds a value, keeps a scope's bytes, or was lost.

@@ -1,6 +1,6 @@
 -- What OpenType says of its number types, as statements about a kind's size, values and bytes.
-use Rattle.std.specs.Prelude.{◌≡◌, ℕ, ◌-◌, ◌/◌, ◌%◌, ◌^◌, ◌<◌, Bool, true, List, length, ℤ, pos, slice_index}
-use Rattle.opentype.specs.Numbers.{Bytes, unsigned_fits, signed_fits, complement, signed}
+use Rattle.std.specs.Prelude.{◌≡◌, ℕ, ◌-◌, ◌/◌, ◌%◌, ◌^◌, ◌<◌, true, List, length, ℤ, pos, slice_index}
+use Rattle.opentype.specs.Numbers.{unsigned_fits, signed_fits, complement, signed}
 use Rattle.kinds.specs.declared.kind.Kind as Kinds
 use Rattle.kinds.specs.declared.scalar.Scalar as Scalars
 

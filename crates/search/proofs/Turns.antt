@@ -1,5 +1,5 @@
 -- The turns of the search: what is left at each comes to what the whole comes to.
-use Rattle.std.proofs.Common.{◌≡◌, ℕ, zero, suc, ◌+◌, ◌-◌, ◌<◌, ◌≤◌, Bool, cond, Some, None, Ok, Err, Option, Result, Ordering, Less, Equal, Greater, sym, refl, ap, ◌∙◌, subst, arith, le-ltb, lt-ltb}
+use Rattle.std.proofs.Common.{◌≡◌, ℕ, zero, suc, ◌+◌, ◌-◌, ◌<◌, ◌≤◌, Bool, cond, Some, None, Ok, Err, Option, Ordering, Less, Equal, Greater, sym, refl, ap, ◌∙◌, arith, le-ltb, lt-ltb}
 use Rattle.search.specs.Halving.{said, middle, turned, halves}
 
 -- the items from l on and before r are left, with turns enough, and what comes of them is what comes of all n

@@ -1,5 +1,5 @@
 -- One digit, and then the other.
-use Rattle.std.proofs.Common.{◌≡◌, string_bytes}
+use Rattle.std.proofs.Common.{string_bytes}
 use Rattle.text.proofs.Each.{two_pushes}
 use Rattle.text.proofs.push_digits.Goals as goal
 

@@ -1,7 +1,7 @@
 -- The scope that was taken has just the bytes of the strides.
 use Rattle.std.proofs.Common.{◌≡◌, ◌*◌, refl, ap, ◌∙◌, rules}
 use Rattle.refusals.proofs.Judging.{gave}
-use Rattle.read.specs.Scopes.{Scope, view, size}
+use Rattle.read.specs.Scopes.{size}
 use Rattle.read.specs.Ctxts.{state}
 use Rattle.read.proofs.Taken.{length-next}
 use Rattle.arrays.proofs.array.take_array.Goals as goal

@@ -1,5 +1,5 @@
 -- A fill of a part of the memory lays zeros over it there.
-use Rattle.std.proofs.Common.{◌≡◌, ℕ, ◌+◌, ◌-◌, List, length, take, drop, replicate, ap, ◌∙◌, arith, length-drop, length-take}
+use Rattle.std.proofs.Common.{◌≡◌, ℕ, ◌+◌, ◌-◌, length, take, drop, replicate, ap, ◌∙◌, arith, length-drop, length-take}
 use lib.ListN.{length-replicate}
 use Rattle.buffer.specs.Buffers.{buffer}
 use Rattle.buffer.proofs.Memory.{part_laid}

@@ -1,5 +1,5 @@
 -- A value that fits has as many bytes as its kind takes, and they stand in front.
-use Rattle.std.proofs.Common.{◌≡◌, length, sym, ap, ◌∙◌, rules}
+use Rattle.std.proofs.Common.{◌≡◌, length, sym, ap, ◌∙◌}
 use Rattle.std.proofs.lemmas.List.{take_at}
 use Rattle.context.proofs.values.put.Goals as goal
 

@@ -1,5 +1,5 @@
 -- The data is bytes, so each string of the count overlaid by it is one of the same count.
-use Rattle.std.proofs.Common.{arith, rules}
+use Rattle.std.proofs.Common.{rules}
 use Rattle.counter.proofs.Counts.{bytes_of, counted_overlaid}
 use Rattle.counter.proofs.WriteCounterWriteContext.write_at.Goals as goal
 

@@ -1,5 +1,5 @@
 -- Each turn appends the line of one more table.
-use Rattle.std.proofs.Common.{◌≡◌, ℕ, ◌<◌, List, ◌++◌, Some, None, string_bytes, sym, ap, ◌∙◌, ap₂, append_assoc, add-one, arith}
+use Rattle.std.proofs.Common.{◌≡◌, ℕ, List, ◌++◌, string_bytes, sym, ap, ◌∙◌, ap₂, append_assoc, add-one, arith}
 use Rattle.arrays.specs.Arrays.{array}
 use Rattle.directory.specs.declared.tables.TableRecord.{TableRecord}
 use Rattle.directory.specs.Tables.{table_in}

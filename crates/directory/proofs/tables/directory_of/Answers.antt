@@ -1,5 +1,5 @@
 -- The three reads follow one another, and the third begins at byte 12.
-use Rattle.std.proofs.Common.{◌≡◌, ℕ, ◌+◌, ◌-◌, ◌*◌, ◌≤◌, Bool, false, cond, ltb, length, take, drop, sym, refl, ap, ◌∙◌, ap₂, arith, ltb-false, le-ltb}
+use Rattle.std.proofs.Common.{◌≡◌, ℕ, ◌*◌, ◌≤◌, Bool, false, cond, ltb, length, take, drop, sym, ap, ◌∙◌, ap₂, arith, ltb-false, le-ltb}
 use Rattle.opentype.specs.Alignment.{largest}
 use Rattle.opentype.specs.Numbers.{number_of}
 use Rattle.refusals.specs.Answers.{Answer, gives, refuses}

@@ -1,5 +1,5 @@
 -- Each turn keeps what the search comes to; and that is where the item lies, or would go in.
-use Rattle.std.proofs.Common.{◌≡◌, ℕ, ◌+◌, ◌/◌, ◌≤◌, List, Ok, Err, Result, Ordering, Less, Equal, Greater, sym, refl, ap, ◌∙◌, subst, arith, rules}
+use Rattle.std.proofs.Common.{◌≡◌, ℕ, ◌+◌, ◌/◌, List, Ok, Result, Ordering, Less, Equal, Greater, sym, refl, ap, ◌∙◌, subst, arith}
 use Rattle.arrays.specs.Arrays.{Array, Whole, array, item}
 use Rattle.arrays.proofs.Items.{whole_item}
 use Rattle.search.specs.Halving.{said, asked, halves, middle}

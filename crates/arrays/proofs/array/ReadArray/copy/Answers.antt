@@ -1,6 +1,6 @@
 -- Each turn copies one more item, which a whole array has.
-use Rattle.std.proofs.Common.{◌≡◌, ℕ, ◌<◌, List, ◌++◌, map, length, set, Some, None, sym, ap, ◌∙◌, ap₂, arith}
-use Rattle.arrays.specs.Arrays.{array, item, item_bytes}
+use Rattle.std.proofs.Common.{◌≡◌, ℕ, set, ◌∙◌, ap₂, arith}
+use Rattle.arrays.specs.Arrays.{array, item_bytes}
 use Rattle.arrays.proofs.Items.{whole_from, whole_item, copy_more}
 use Rattle.arrays.proofs.array.ReadArray.copy.Goals as goal
 

@@ -1,5 +1,5 @@
 -- In a whole array the bytes reach to the end of every item, so no test for them fails.
-use Rattle.std.proofs.Common.{◌≡◌, ◌*◌, refl, rules}
+use Rattle.std.proofs.Common.{rules}
 use Rattle.arrays.specs.Arrays.{array}
 use Rattle.arrays.proofs.Items.{item_within}
 use Rattle.arrays.proofs.array.ReadArray.place.Goals as goal

@@ -1,5 +1,5 @@
 -- What the search answers, by the tag that the probe was made for.
-use Rattle.std.proofs.Common.{◌≡◌, ℕ, Ok, Err, Result, sym, ap, ◌∙◌, subst}
+use Rattle.std.proofs.Common.{◌≡◌, ℕ, Ok, Err, Result, ap, ◌∙◌, subst}
 use Rattle.arrays.specs.Arrays.{Array, Whole, array}
 use Rattle.search.specs.Halving.{asked, halves}
 use Rattle.search.specs.Found.{said_of, Runs, Found}

@@ -1,5 +1,5 @@
 -- Each turn adds the next row, which begins where the one before ends.
-use Rattle.std.proofs.Common.{◌≡◌, ℕ, List, ◌++◌, length, sym, refl, ap, ◌∙◌, zero-mul, arith, rules}
+use Rattle.std.proofs.Common.{◌≡◌, ℕ, ◌++◌, length, sym, ap, ◌∙◌, zero-mul, arith, rules}
 use Rattle.std.proofs.lemmas.List.{append-nil, length-append}
 use Rattle.register.specs.Rows.{listed, in_a_row}
 use Rattle.register.proofs.Listed.{next_within, run_more, mul_more, length-in_a_row}
