@@ -5,6 +5,6 @@
 #[cfg(test)]
 mod filling;
 #[cfg(test)]
-mod runs;
+mod placeholder_arrays;
 #[cfg(test)]
 mod taking;
