@@ -1,15 +1,16 @@
 -- A value that fits has as many bytes as the place is long, and they are read as the value, by its code too.
-use Rattle.std.proofs.Common.{◌≡◌, true, ap, rules}
+use Rattle.std.proofs.Common.{ap, rules}
+use base.Stored.{Coded}
+use Rattle.kinds.specs.Laws.{Lawful}
+use Rattle.kinds.specs.declared.kind.Kind.{Ghosts}
+use Rattle.runs.specs.Calls.{Kept, item}
 use Rattle.writer.proofs.writer.Writer.fill.Goals as goal
 
+item_kept : {K V : Type 0} (k : Ghosts K V) (c : Coded V) → Lawful k.width k.fitting k.bytes k.value → (v : V) → Kept (item k c v)
+item_kept k c law v = record { sized = law.sized v; back = λ h. ap c.code (law.back v h) }
+
 pub returns-in-Ok : goal.returns-in-Ok
-returns-in-Ok g c =
-    let s = g.met.K.Kind.lawful.sized c.args.v in
-    let b = λ (h : g.K.Kind.fitting c.args.v ≡ true). ap g.row.K-HostType.coded.code (g.met.K.Kind.lawful.back c.args.v h) in
-    search rules
+returns-in-Ok g c = let kept = item_kept g.K.Kind g.row.K-HostType.coded g.met.K.Kind.lawful c.args.v in search rules
 
 pub returns-in-Err : goal.returns-in-Err
-returns-in-Err g c =
-    let s = g.met.K.Kind.lawful.sized c.args.v in
-    let b = λ (h : g.K.Kind.fitting c.args.v ≡ true). ap g.row.K-HostType.coded.code (g.met.K.Kind.lawful.back c.args.v h) in
-    search rules
+returns-in-Err g c = let kept = item_kept g.K.Kind g.row.K-HostType.coded g.met.K.Kind.lawful c.args.v in search rules
