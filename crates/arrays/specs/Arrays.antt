@@ -43,10 +43,6 @@ item_bytes width a i = take width (drop (i * a.stride) a.scope.slice.bytes)
 abbrev pub reaches : ℕ → Array → ℕ → Bool
 reaches width a i = nat_le (i * a.stride + width) (size a.scope)
 
--- Where item i begins, if there is one.
-abbrev pub item_place : ℕ → Array → ℕ → Option ℕ
-item_place width a i = cond (nat_lt i a.count && reaches width a i) (Some (i * a.stride)) None
-
 -- Item i, if there is one.
 abbrev pub item : {V : Type 0} → ℕ → (List ℕ → V) → Array → ℕ → Option V
 item width value a i = cond (nat_lt i a.count && reaches width a i) (Some (value (item_bytes width a i))) None

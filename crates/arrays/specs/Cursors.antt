@@ -1,5 +1,5 @@
 -- Cursors: an array, and the range of its items that are still to come.
-use Rattle.std.specs.Prelude.{ℕ, ◌+◌, ◌-◌, cond, List, is_some, Some, None, Option, Result, nat_lt}
+use Rattle.std.specs.Prelude.{◌≡◌, ℕ, Bool, true, IfSome, ◌+◌, ◌-◌, cond, List, is_some, Some, None, Option, Result, nat_lt}
 use Rattle.refusals.specs.declared.refusal.Refusal.{Refusal}
 use Rattle.refusals.specs.Answers.{Answer, told}
 use Rattle.arrays.specs.Arrays.{Array, array, item, read_item_of}
@@ -41,6 +41,18 @@ module _ {V : Type 0} (width : ℕ) (value : List ℕ → V) (c : Cursor) where
   abbrev pub past_last : Cursor
   past_last = cond (is_some last_item) (record { array = c.array; index = c.index; end = c.end - 1 }) c
 
+  -- A step from the front: its answer is the first item, which fits, and it leaves the cursor past it.
+  pub record FirstTaken (fitting : V → Bool) (r : Option V) (d : Cursor) : Type 0 where
+    pub answer : r ≡ first_item
+    pub after : d ≡ past_first
+    pub fit : IfSome r (λ v. fitting v ≡ true)
+
+  -- A step from the back: its answer is the last item, which fits, and it leaves the cursor before it.
+  pub record LastTaken (fitting : V → Bool) (r : Option V) (d : Cursor) : Type 0 where
+    pub answer : r ≡ last_item
+    pub after : d ≡ past_last
+    pub fit : IfSome r (λ v. fitting v ≡ true)
+
 -- The cursor of `iter_res` goes forward only: all items from `index` on are still to come.
 abbrev pub forward : {K : Type 0} → ReadArrayResIter K → Cursor
 forward c = record { array = array c.array; index = c.index; end = c.array.length }
@@ -58,3 +70,8 @@ module _ {V : Type 0} (width : ℕ) (value : List ℕ → V) (c : Cursor) where
   -- the cursor once it was given
   abbrev pub past_answer : Cursor
   past_answer = cond (nat_lt c.index c.end) (record { array = c.array; index = c.index + 1; end = c.end }) c
+
+  -- A step forward: its answer is that of the first item, and it leaves the cursor past it.
+  pub record AnswerTaken (r : Option (Result V Refusal)) (d : Cursor) : Type 0 where
+    pub answer : told_next r ≡ first_answer
+    pub after : d ≡ past_answer

@@ -2,14 +2,16 @@ ghost use Rattle.std.specs.Prelude.{◌≡◌, ◌+◌, ◌-◌, ◌*◌, ◌<�
 ghost use Rattle.refusals.specs.Answers.{told, judged, after};
 ghost use Rattle.read.specs.Scopes.{size, Sound as SoundScope};
 ghost use Rattle.read.specs.Ctxts.{state, moved, Sound as SoundCtxt};
-ghost use Rattle.arrays.specs.Arrays.{array, Whole, next_array, array_dues, stride_dues, item, read_item_of, index_dues, items, is_whole, copy_dues, item_bytes, item_place, space_dues};
+ghost use Rattle.arrays.specs.Arrays.{array, Whole, next_array, array_dues, stride_dues, item, read_item_of, index_dues, items, is_whole, copy_dues, item_bytes, space_dues};
 
 use kinds::Kind;
 use read::{ReadCtxt, ReadScope};
 use refusals::Refusal;
 use std::marker::PhantomData;
 
-// Items of a kind that lie a stride apart.
+// Items of a kind that lie a stride apart. (It has no `Model`, which a `Copy` type with a lifetime may not
+// have. That it is whole, each call that makes one promises, and not the type: a rule of this project, as is said
+// in docs/DECISIONS.md. That a read value fits its kind, each read promises, since the value is a plain number.)
 #[derive_where(Clone, Copy)]
 pub struct ReadArray<'a, K> {
     scope: ReadScope<'a>,
@@ -60,18 +62,14 @@ fn take_array<'a, K: Kind>(
     ensures apart { IfOk result (λ a. (array a).stride ≡ stride) }
     ensures sound { SoundCtxt (state ctxt.old) → SoundCtxt (state ctxt.new) × IfOk result (λ a. SoundScope (array a).scope) }
 {
-    let Some(size) = length.checked_mul(stride) else {
-        return Err(Refusal::Overflow);
-    };
-    match ctxt.read_scope(size) {
-        Ok(scope) => Ok(ReadArray {
-            scope,
-            length,
-            stride,
-            marker: PhantomData,
-        }),
-        Err(e) => Err(e),
-    }
+    let size = length.checked_mul(stride).ok_or(Refusal::Overflow)?;
+    let scope = ctxt.read_scope(size)?;
+    Ok(ReadArray {
+        scope,
+        length,
+        stride,
+        marker: PhantomData,
+    })
 }
 
 impl<'a, K: Kind> ReadArray<'a, K> {
@@ -79,26 +77,21 @@ impl<'a, K: Kind> ReadArray<'a, K> {
     pub fn len(&self) -> usize
         ensures value { result ≡ (array self.now).count }
     {
-        let length = self.length;
-        length
+        self.length
     }
 
     // Whether there are none.
     pub fn is_empty(&self) -> bool
         ensures value { result ≡ ((array self.now).count == 0) }
     {
-        self.length == 0
+        self.len() == 0
     }
 
     // BadIndex unless there is an item of that index.
     pub fn check_index(&self, index: usize) -> Result<(), Refusal>
         ensures answer { told (λ t. t) result ≡ judged (index_dues (array self.now) index) tt }
     {
-        if index < self.length {
-            Ok(())
-        } else {
-            Err(Refusal::BadIndex)
-        }
+        Refusal::BadIndex.unless(index < self.length)
     }
 
     // The item of that index, or none past the end.
@@ -107,31 +100,13 @@ impl<'a, K: Kind> ReadArray<'a, K> {
         ensures whole { Whole K.width (array self.now) → index < (array self.now).count → result ≡ Some (K.value (item_bytes K.width (array self.now) index)) }
         ensures fit { IfSome result (λ v. K.fitting v ≡ true) }
     {
-        let Some(from) = self.place(index) else {
-            return None;
-        };
-        let data = self.scope.data();
-        Some(unsafe { K::read_unchecked(&data[from..from + K::size()]) })
-    }
-
-    // Where the item of that index begins, if there is one.
-    fn place(&self, index: usize) -> Option<usize>
-        ensures value { result ≡ item_place K.width (array self.now) index }
-        ensures within { IfSome result (λ from. from + K.width ≤ size (array self.now).scope) }
-        ensures whole { Whole K.width (array self.now) → index < (array self.now).count → result ≡ Some (index * (array self.now).stride) }
-    {
         if index >= self.length {
             return None;
         }
-        let size = K::size();
-        let held = self.scope.data().len();
-        let Some(from) = index.checked_mul(self.stride) else {
-            return None;
-        };
-        if from > held || size > held - from {
-            return None;
-        }
-        Some(from)
+        let data = self.scope.data();
+        let from = index.checked_mul(self.stride)?;
+        let part = data.get(from..)?.get(..K::size())?;
+        Some(unsafe { K::read_unchecked(part) })
     }
 
     // The last item, or none if there are none.
@@ -149,10 +124,7 @@ impl<'a, K: Kind> ReadArray<'a, K> {
         ensures fit { IfOk result (λ v. K.fitting v ≡ true) }
     {
         self.check_index(index)?;
-        match self.get_item(index) {
-            Some(v) => Ok(v),
-            None => Err(Refusal::BadEof),
-        }
+        self.get_item(index).ok_or(Refusal::BadEof)
     }
 
     // An array of no items.
@@ -193,10 +165,7 @@ impl<'a, K: Kind> ReadArray<'a, K> {
         ensures whole { Whole K.width (array self.now) → result ≡ true }
     {
         let held = self.scope.data().len();
-        match self.length.checked_mul(self.stride) {
-            Some(size) => K::size() <= self.stride && held == size,
-            None => false,
-        }
+        K::size() <= self.stride && self.length.checked_mul(self.stride) == Some(held)
     }
 
     // Copies the items of a whole array, for which there is space.
@@ -205,11 +174,8 @@ impl<'a, K: Kind> ReadArray<'a, K> {
         requires space { (array self.now).count ≤ many out.old }
         ensures { out.new ≡ items K.width K.value (array self.now) ++ drop (array self.now).count out.old }
     {
-        for i in 0..self.length {
-            match self.get_item(i) {
-                Some(v) => out[i] = v,
-                None => unreachable(),
-            }
+        for (i, v) in self.iter().enumerate() {
+            out[i] = v;
         }
     }
 }

@@ -1,6 +1,7 @@
-ghost use Rattle.std.specs.Prelude.{◌≡◌, true, IfSome};
+ghost use Rattle.std.specs.Prelude.{◌≡◌, ◌≤◌, IfSome, Some};
+ghost use Rattle.std.specs.Iterator.{at_most, IsFinite, UpTo};
 ghost use Rattle.arrays.specs.Arrays.{array};
-ghost use Rattle.arrays.specs.Cursors.{cursor, over, remaining, first_item, past_first, last_item, past_last, forward, told_next, first_answer, past_answer};
+ghost use Rattle.arrays.specs.Cursors.{cursor, over, remaining as left, forward, FirstTaken, LastTaken, AnswerTaken};
 
 use crate::array::ReadArray;
 use kinds::Kind;
@@ -45,65 +46,104 @@ impl<'a, K: Kind> ReadArray<'a, K> {
     }
 }
 
-impl<'a, K: Kind> ReadArrayIter<'a, K> {
-    // How many items are still to come.
-    pub fn len(&self) -> usize
-        ensures value { result ≡ remaining (cursor self.now) }
-    {
-        self.end.saturating_sub(self.index)
-    }
+impl<'a, K: Kind> Iterator for ReadArrayIter<'a, K> {
+    type Item = K::HostType;
+
+    ghost next_gives = { λ s r t. FirstTaken K.width K.value (cursor s) K.fitting r (cursor t) };
+
+    ghost remaining = { λ s. at_most (left (cursor s)) };
 
     // The first item still to come.
-    pub fn next(&mut self) -> Option<K::HostType>
-        ensures value { result ≡ first_item K.width K.value (cursor self.old) }
-        ensures after { cursor self.new ≡ past_first K.width K.value (cursor self.old) }
-        ensures fit { IfSome result (λ v. K.fitting v ≡ true) }
-    {
+    fn next(&mut self) -> Option<K::HostType> {
         if self.index >= self.end {
             return None;
         }
-        let item = self.array.get_item(self.index);
-        if item.is_some() {
-            self.index += 1;
-        }
-        item
+        let item = self.array.get_item(self.index)?;
+        self.index += 1;
+        Some(item)
     }
 
-    // The last item still to come.
-    pub fn next_back(&mut self) -> Option<K::HostType>
-        ensures value { result ≡ last_item K.width K.value (cursor self.old) }
-        ensures after { cursor self.new ≡ past_last K.width K.value (cursor self.old) }
-        ensures fit { IfSome result (λ v. K.fitting v ≡ true) }
+    // How many items are still to come, as both bounds. (The other cursor's has the same body: the trait asks it
+    // of each type.)
+    fn size_hint(&self) -> (usize, Option<usize>)
+        ensures lower { IsFinite (at_most (left (cursor self.now))) → result.0 ≤ left (cursor self.now) }
+        ensures upper { IfSome result.1 (UpTo (at_most (left (cursor self.now)))) }
+        ensures value { result ≡ (left (cursor self.now), Some (left (cursor self.now))) }
     {
-        if self.end <= self.index {
-            return None;
-        }
-        let item = self.array.get_item(self.end - 1);
-        if item.is_some() {
-            self.end -= 1;
-        }
-        item
+        let n = self.len();
+        (n, Some(n))
     }
 }
 
-impl<'a, K: Kind> ReadArrayResIter<'a, K> {
-    // How many items are still to come.
-    pub fn len(&self) -> usize
-        ensures value { result ≡ remaining (forward self.now) }
-    {
-        self.array.len().saturating_sub(self.index)
+impl<'a, K: Kind> IntoIterator for &ReadArray<'a, K> {
+    type Item = K::HostType;
+
+    type IntoIter = ReadArrayIter<'a, K>;
+
+    ghost into_iter_gives = { λ a r. cursor r ≡ over (array a.now) };
+
+    // A cursor over all items.
+    fn into_iter(self) -> ReadArrayIter<'a, K> {
+        self.iter()
     }
+}
+
+impl<'a, K: Kind> DoubleEndedIterator for ReadArrayIter<'a, K> {
+    ghost next_back_gives = { λ s r t. LastTaken K.width K.value (cursor s) K.fitting r (cursor t) };
+
+    // The last item still to come.
+    fn next_back(&mut self) -> Option<K::HostType> {
+        if self.end <= self.index {
+            return None;
+        }
+        let item = self.array.get_item(self.end - 1)?;
+        self.end -= 1;
+        Some(item)
+    }
+}
+
+impl<'a, K: Kind> ExactSizeIterator for ReadArrayIter<'a, K> {
+    // How many items are still to come.
+    fn len(&self) -> usize
+        ensures value { result ≡ left (cursor self.now) }
+    {
+        self.end.saturating_sub(self.index)
+    }
+}
+
+impl<'a, K: Kind> Iterator for ReadArrayResIter<'a, K> {
+    type Item = Result<K::HostType, Refusal>;
+
+    ghost next_gives = { λ s r t. AnswerTaken K.width K.value (forward s) r (forward t) };
+
+    ghost remaining = { λ s. at_most (left (forward s)) };
 
     // What `read_item` answers for the first item still to come.
-    pub fn next(&mut self) -> Option<Result<K::HostType, Refusal>>
-        ensures answer { told_next result ≡ first_answer K.width K.value (forward self.old) }
-        ensures after { forward self.new ≡ past_answer K.width K.value (forward self.old) }
-    {
+    fn next(&mut self) -> Option<Result<K::HostType, Refusal>> {
         let index = self.index;
         if index >= self.array.len() {
             return None;
         }
         self.index = index + 1;
         Some(self.array.read_item(index))
+    }
+
+    // How many items are still to come, as both bounds.
+    fn size_hint(&self) -> (usize, Option<usize>)
+        ensures lower { IsFinite (at_most (left (forward self.now))) → result.0 ≤ left (forward self.now) }
+        ensures upper { IfSome result.1 (UpTo (at_most (left (forward self.now)))) }
+        ensures value { result ≡ (left (forward self.now), Some (left (forward self.now))) }
+    {
+        let rest = self.len();
+        (rest, Some(rest))
+    }
+}
+
+impl<'a, K: Kind> ExactSizeIterator for ReadArrayResIter<'a, K> {
+    // How many items are still to come.
+    fn len(&self) -> usize
+        ensures value { result ≡ left (forward self.now) }
+    {
+        self.array.len().saturating_sub(self.index)
     }
 }

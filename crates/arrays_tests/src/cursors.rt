@@ -52,3 +52,19 @@ fn answers_come_forward(rt: HostRuntime) -> Result<(), Fail> {
     assert_eq!(rt; cursor.next(), None);
     Ok(())
 }
+
+#[test]
+fn cursors_are_iterators(rt: HostRuntime) -> Result<(), Fail> {
+    let array = bytes(&[3, 5, 9])?;
+    let mut last = None;
+    for v in &array {
+        last = Some(v);
+    }
+    assert_eq!(rt; last, Some(9));
+    assert_eq!(rt; array.iter().nth(1), Some(5));
+    assert_eq!(rt; array.iter().rev().nth(2), Some(3));
+    assert_eq!(rt; array.iter().size_hint(), (3, Some(3)));
+    assert_eq!(rt; array.iter_res().size_hint(), (3, Some(3)));
+    assert_eq!(rt; array.iter_res().last(), Some(Ok(9)));
+    Ok(())
+}

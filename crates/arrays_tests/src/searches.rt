@@ -7,10 +7,8 @@ use std::test::Fail;
 
 fn look(data: &[u8], want: u8) -> Result<usize, usize> {
     let mut ctxt = ReadScope::new(data).ctxt();
-    match read_array::<U8>(&mut ctxt, data.len()) {
-        Ok(array) => binary_search_by(&array, &Number::<U8>::new(want)),
-        Err(_) => Err(usize::MAX),
-    }
+    let array = read_array::<U8>(&mut ctxt, data.len()).map_err(|_| usize::MAX)?;
+    binary_search_by(&array, &Number::<U8>::new(want))
 }
 
 #[test]

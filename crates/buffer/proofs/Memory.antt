@@ -1,19 +1,9 @@
 -- A buffer whose memory had data laid over it: what it stands for, its space, and what it keeps.
-use Rattle.std.proofs.Common.{◌≡◌, ℕ, ◌+◌, ◌-◌, ◌≤◌, List, ◌++◌, length, take, drop, sym, refl, ap, ◌∙◌, subst, ap₂, append_assoc, arith, length-append, length-drop, length-take}
-use borrow.Rule.Slice.PartMut.{put_mid}
+use Rattle.std.proofs.Common.{◌≡◌, ℕ, ◌+◌, ◌-◌, ◌≤◌, List, ◌++◌, length, take, drop, sym, refl, ap, ◌∙◌, subst, append_assoc, arith, length-append, length-drop, length-take}
 use lib.Seq.{take-append-add}
 use Rattle.std.proofs.lemmas.List.{take-take, drop-take, take_at, drop_at}
-use Rattle.std.proofs.lemmas.Slice.{put_mid-paste}
-use Rattle.std.proofs.lemmas.List.Edits.{paste_all}
-use Rattle.buffer.specs.declared.WriteBuffer.{WriteBuffer}
 use Rattle.context.specs.Contexts.{overlaid, Grown, Overlaid}
-use Rattle.buffer.specs.Buffers.{Buffer, buffer, end, room, front, laid, appended, Kept, drop_further, buffer_means}
-
--- a write to a part of the memory lays the data over it
-pub part_laid : (b : Buffer) (p k : ℕ) (put part : List ℕ) → part ≡ put → length put ≡ k → record { memory = b.memory; holds = put_mid p k b.holds part; count = b.count } ≡ laid b p put
-part_laid b p k put part e n =
-    ap (λ (h : List ℕ). record { memory = b.memory; holds = h; count = b.count })
-    (put_mid-paste p k b.holds part put (length put) e n refl ∙ paste_all b.holds p put (length put) refl)
+use Rattle.buffer.specs.Buffers.{Buffer, end, room, front, laid, appended, Kept, drop_further, buffer_means}
 
 pub length-overlaid : (s : List ℕ) (p : ℕ) (put : List ℕ) → p + length put ≤ length s → length (overlaid s p put) ≡ length s
 length-overlaid s p put h = simp (length-append, length-take, length-drop) (omega arith)
@@ -47,12 +37,6 @@ take-overlaid_front s p put n h k =
     ap (λ (m : ℕ). take m (overlaid s p put)) e
     ∙ take-overlaid_past s p put (n - (p + length put)) (omega arith)
     ∙ sym (ap (λ (m : ℕ). overlaid (take m s) p put) e)
-
--- data laid from the end on, and counted, was written behind the end
-pub behind_end : (b d : Buffer) (put : List ℕ) (from n : ℕ) → from ≡ end b → length put ≡ n → d ≡ laid b from put → record { memory = d.memory; holds = d.holds; count = from + n } ≡ appended b put
-behind_end b d put from n at long e =
-    ap (λ (x : Buffer). record { memory = x.memory; holds = x.holds; count = from + n }) e
-    ∙ ap₂ (λ (p k : ℕ). record { memory = b.memory; holds = overlaid b.holds p put; count = p + k }) at (sym long)
 
 -- a buffer that had data written behind its end
 module _ (b : Buffer) (put : List ℕ) (fit : length put ≤ room b) where
@@ -88,17 +72,16 @@ module _ (b : Buffer) (p : ℕ) (put : List ℕ) (fit : p + length put ≤ end b
   room-laid : room (laid b p put) ≡ room b
   room-laid = let l = laid_long in omega arith
 
--- the same of buffers of the program
-pub Grown-appended : (c d : WriteBuffer) (put : List ℕ) → length put ≤ room (buffer c) → buffer d ≡ appended (buffer c) put → Grown buffer_means c put d
+pub Grown-appended : (c d : Buffer) (put : List ℕ) → length put ≤ room c → d ≡ appended c put → Grown buffer_means c put d
 Grown-appended c d put fit e = record {
-  each = λ s h. ap (λ (t : List ℕ). t ++ put) h ∙ sym (front-appended (buffer c) put fit) ∙ sym (ap front e);
-  less = ap (λ (b : Buffer). room b + length put) e ∙ room-appended (buffer c) put fit;
-  kept = subst (Kept (buffer c)) (sym e) (Kept-appended (buffer c) put fit);
+  each = λ s h. ap (λ (t : List ℕ). t ++ put) h ∙ sym (front-appended c put fit) ∙ sym (ap front e);
+  less = ap (λ (b : Buffer). room b + length put) e ∙ room-appended c put fit;
+  kept = subst (Kept c) (sym e) (Kept-appended c put fit);
 }
 
-pub Overlaid-laid : (c d : WriteBuffer) (p : ℕ) (put : List ℕ) → p + length put ≤ end (buffer c) → buffer d ≡ laid (buffer c) p put → Overlaid buffer_means c p put d
+pub Overlaid-laid : (c d : Buffer) (p : ℕ) (put : List ℕ) → p + length put ≤ end c → d ≡ laid c p put → Overlaid buffer_means c p put d
 Overlaid-laid c d p put fit e = record {
-  each = λ s h. ap (λ (t : List ℕ). overlaid t p put) h ∙ sym (front-laid (buffer c) p put fit) ∙ sym (ap front e);
-  less = ap room e ∙ room-laid (buffer c) p put fit;
-  kept = subst (Kept (buffer c)) (sym e) (Kept-laid (buffer c) p put fit);
+  each = λ s h. ap (λ (t : List ℕ). overlaid t p put) h ∙ sym (front-laid c p put fit) ∙ sym (ap front e);
+  less = ap room e ∙ room-laid c p put fit;
+  kept = subst (Kept c) (sym e) (Kept-laid c p put fit);
 }

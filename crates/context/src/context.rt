@@ -36,7 +36,8 @@ pub trait WriteContext {
         ensures within { means.written self.now + result ≤ largest };
 }
 
-// Whether `size` bytes from `offset` on lie before `end`, as an implementation of `write_at` asks.
+// Whether `size` bytes from `offset` on lie before `end`, as an implementation of `write_at` asks. (It is no order
+// of two values, and the sum could wrap.)
 pub fn lies_before(end: usize, offset: usize, size: usize) -> bool
     ensures value { result ≡ nat_le (offset + size) end }
 {

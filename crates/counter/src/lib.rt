@@ -1,11 +1,14 @@
 #![tactic(auto)]
 
-ghost use Rattle.std.specs.Prelude.{◌≡◌, ◌+◌, ◌-◌, ◌≤◌, []};
+ghost use Rattle.std.specs.Prelude.{◌≡◌, ℕ, ◌+◌, ◌-◌, ◌≤◌, []};
+ghost use Rattle.refusals.specs.Answers.{told, judged, after};
 ghost use Rattle.opentype.specs.Alignment.{largest};
-ghost use Rattle.counter.specs.Counters.{counted, counter_means};
+ghost use Rattle.context.specs.Contexts.{space_dues};
+ghost use Rattle.counter.specs.Counters.{counter_means};
 
 use context::{WriteContext, lies_before};
 use refusals::Refusal;
+use std::marker::Model;
 
 // A context that counts what is written and keeps none of it.
 #[derive(Drop)]
@@ -13,21 +16,29 @@ pub struct WriteCounter {
     count: usize,
 }
 
+// Contracts see a counter as its count.
+impl Model for WriteCounter {
+    ghost Value = { ℕ };
+
+    ghost view = { λ c. c.count };
+}
+
 impl WriteCounter {
     // A counter of nothing.
     pub fn new() -> WriteCounter
-        ensures value { counted result ≡ 0 }
+        ensures value { result ≡ 0 }
         ensures nothing { counter_means.stands result [] }
     {
         WriteCounter { count: 0 }
     }
 
-    // Counts `size` bytes more.
-    fn add(&mut self, size: usize)
-        requires space { size ≤ largest - counted self.old }
-        ensures after { counted self.new ≡ counted self.old + size }
+    // Counts `size` bytes more, if there is space for them.
+    fn add(&mut self, size: usize) -> Result<(), Refusal>
+        ensures answer { told (λ t. t) result ≡ judged (space_dues (largest - self.old) size) tt }
+        ensures after { self.new ≡ after (space_dues (largest - self.old) size) self.old (self.old + size) }
     {
-        self.count += size;
+        self.count = self.count.checked_add(size).ok_or(Refusal::NoSpace)?;
+        Ok(())
     }
 }
 
@@ -35,19 +46,11 @@ impl WriteContext for WriteCounter {
     ghost means = { counter_means };
 
     fn write_bytes(&mut self, data: &[u8]) -> Result<(), Refusal> {
-        if data.len() > self.space() {
-            return Err(Refusal::NoSpace);
-        }
-        self.add(data.len());
-        Ok(())
+        self.add(data.len())
     }
 
     fn write_zeros(&mut self, count: usize) -> Result<(), Refusal> {
-        if count > self.space() {
-            return Err(Refusal::NoSpace);
-        }
-        self.add(count);
-        Ok(())
+        self.add(count)
     }
 
     fn write_at(&mut self, offset: usize, data: &[u8]) -> Result<(), Refusal> {
@@ -57,6 +60,7 @@ impl WriteContext for WriteCounter {
         Ok(())
     }
 
+    // (The buffer's looks the same: each context answers its own count.)
     fn bytes_written(&self) -> usize {
         self.count
     }

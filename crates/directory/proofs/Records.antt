@@ -1,23 +1,15 @@
--- Where the header's fields and the records lie in the font.
-use Rattle.std.proofs.Common.{◌≡◌, ℕ, zero, suc, ◌+◌, ◌-◌, ◌*◌, ◌<◌, ◌≤◌, Bool, cond, ltb, List, [], ◌∷◌, ◌++◌, length, take, drop, sym, refl, ap, ◌∙◌, ap₂, arith, take-take, drop-drop}
+-- Where the records lie in the font, and so what their lines say.
+use Rattle.std.proofs.Common.{◌≡◌, ℕ, zero, suc, ◌+◌, ◌-◌, ◌*◌, ◌<◌, ◌≤◌, Bool, cond, ltb, List, [], ◌∷◌, ◌++◌, length, take, drop, sym, refl, ap, ◌∙◌, ap₂, arith, add-one, take-take, drop-drop}
 use Rattle.std.proofs.lemmas.List.{drop-take}
 use Rattle.refusals.specs.declared.refusal.Refusal.TheVariants.{BadEof}
 use Rattle.refusals.specs.Answers.{gives, due, judged}
 use Rattle.refusals.proofs.Judging.{gave}
-use Rattle.opentype.specs.Numbers.{number_of}
 use Rattle.read.specs.Scopes.{Slice}
 use Rattle.arrays.specs.Arrays.{Array}
 use Rattle.directory.specs.declared.tables.Header.{Header}
 use Rattle.directory.specs.declared.tables.TableRecord.{TableRecord}
-use Rattle.directory.specs.Tables.{field, header, count, extent, record_of, table, records, table_in}
-use Rattle.directory.specs.Listing.{table_line_of, lines_of, header_line_of, refusal_line_of, listing_of}
-
--- the two fields of the header's first six bytes
-pub version_field : (bs : List ℕ) → number_of (take 4 (take 6 bs)) ≡ field bs 0 4
-version_field bs = ap number_of (take-take 4 6 bs (omega arith))
-
-pub count_field : (bs : List ℕ) → number_of (drop 4 (take 6 bs)) ≡ field bs 4 2
-count_field bs = ap number_of (drop-take 4 2 bs)
+use Rattle.directory.specs.Tables.{header, count, extent, record_of, table, records, table_in}
+use Rattle.directory.specs.Listing.{table_line_of, lines_of, header_line_of, directory_text_of, refusal_line_of, listing_of}
 
 -- a record lies as far into the records as the records lie into the font
 record_inside : (bs : List ℕ) (i n : ℕ) → i < n → take 16 (drop (i * 16) (take (n * 16) (drop 12 bs))) ≡ take 16 (drop (12 + i * 16) bs)
@@ -28,16 +20,21 @@ record_inside bs i n lt =
     ∙ take-take 16 (16 + (n - i - 1) * 16) (drop (i * 16) (drop 12 bs)) (omega arith)
     ∙ ap (take 16) (drop-drop (i * 16) 12 bs)
 
+-- the lines of one more table
+pub lines_more : (t : ℕ → TableRecord) (i : ℕ) → lines_of t (i + 1) ≡ lines_of t i ++ table_line_of (t i)
+lines_more t i = ap (lines_of t) (add-one i)
+
 module _ (s : Slice) where
+  -- the lines of the first n records are those of the font's first n tables
   lines_same : (n : ℕ) → n ≤ count s.bytes → lines_of (table_in (records s)) n ≡ lines_of (table s.bytes) n
   lines_same zero h = refl
   lines_same (suc n) h =
       ap₂ (λ (l : List ℕ) (t : TableRecord). l ++ table_line_of t) (lines_same n (omega arith)) (ap record_of (record_inside s.bytes n (count s.bytes) (omega arith)))
 
   -- the text of the records is that of the font
-  pub text_same : (h : Header) (a : Array) → gives h ≡ judged (due BadEof (ltb (length s.bytes) (extent s.bytes)) ∷ []) (header s.bytes) → a ≡ records s → header_line_of h ++ lines_of (table_in a) a.count ≡ listing_of s.bytes
+  pub text_same : (h : Header) (a : Array) → gives h ≡ judged (due BadEof (ltb (length s.bytes) (extent s.bytes)) ∷ []) (header s.bytes) → a ≡ records s → directory_text_of h a ≡ listing_of s.bytes
   text_same h a e f =
       let g = gave _ 1 _ _ e in
-      ap₂ (λ (x : Header) (y : Array). header_line_of x ++ lines_of (table_in y) y.count) g.1 f
+      ap₂ directory_text_of g.1 f
       ∙ ap (λ (l : List ℕ). header_line_of (header s.bytes) ++ l) (lines_same (count s.bytes) (omega arith))
       ∙ sym (ap (λ (b : Bool). cond b (refusal_line_of BadEof) (header_line_of (header s.bytes) ++ lines_of (table s.bytes) (count s.bytes))) g.0)

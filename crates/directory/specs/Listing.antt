@@ -9,7 +9,7 @@ use Rattle.arrays.specs.Arrays.{Array}
 use Rattle.text.specs.Hexadecimal.{hex_byte, each, hex}
 use Rattle.directory.specs.declared.tables.Header.{Header}
 use Rattle.directory.specs.declared.tables.TableRecord.{TableRecord}
-use Rattle.directory.specs.Tables.{header, count, extent, table, records, table_at}
+use Rattle.directory.specs.Tables.{header, count, extent, table, records, table_at, table_in}
 use Rattle.directory.specs.Tags.{tag_search, tag_number}
 
 -- Whether a byte of a tag stands for itself: from 0x20 to 0x7E.
@@ -28,19 +28,31 @@ tag_text_of tag = each tag_byte (big_endian 4 tag)
 unfoldable pub hex_number_of : ℕ → List ℕ
 hex_number_of v = hex (big_endian 4 v)
 
--- The line of a table: its tag, its checksum in eight hexadecimal digits, its offset and its length in decimal.
+-- A table as text: its tag, its checksum in eight hexadecimal digits, its offset and its length in decimal.
+abbrev pub table_text_of : TableRecord → List ℕ
+table_text_of t =
+    tag_text_of t.tag ++ (codes " " ++ (hex_number_of t.checksum ++ (codes " " ++ (decimal t.offset ++ (codes " " ++ decimal t.length)))))
+
+-- The line of a table.
 abbrev pub table_line_of : TableRecord → List ℕ
-table_line_of t =
-    tag_text_of t.tag ++ (codes " " ++ (hex_number_of t.checksum ++ (codes " " ++ (decimal t.offset ++ (codes " " ++ (decimal t.length ++ codes "\n"))))))
+table_line_of t = table_text_of t ++ codes "\n"
 
 -- The lines of tables, of which `t i` is the record of table i: the first n.
 abbrev pub lines_of : (ℕ → TableRecord) → ℕ → List ℕ
 lines_of t zero = []
 lines_of t (suc n) = lines_of t n ++ table_line_of (t n)
 
--- The first line: the version in eight hexadecimal digits, and how many tables there are.
+-- A header as text: the version in eight hexadecimal digits, and how many tables there are.
+abbrev pub header_text_of : Header → List ℕ
+header_text_of h = codes "0x" ++ (hex_number_of h.version ++ (codes " " ++ (decimal h.count ++ codes " tables")))
+
+-- The first line.
 abbrev pub header_line_of : Header → List ℕ
-header_line_of h = codes "0x" ++ (hex_number_of h.version ++ (codes " " ++ (decimal h.count ++ codes " tables\n")))
+header_line_of h = header_text_of h ++ codes "\n"
+
+-- A directory as text: the line of its header, and one for each record.
+abbrev pub directory_text_of : Header → Array → List ℕ
+directory_text_of h a = header_line_of h ++ lines_of (table_in a) a.count
 
 -- The line of a refusal.
 abbrev pub refusal_line_of : Refusal → List ℕ

@@ -1,5 +1,5 @@
 -- A font's table directory as OpenType lays it out: a header of 12 bytes, and then 16 bytes for each table.
-use Rattle.std.specs.Prelude.{ℕ, ◌+◌, ◌*◌, cond, ◌&&◌, List, take, drop, Some, None, Option, nat_lt}
+use Rattle.std.specs.Prelude.{◌≡◌, ℕ, ◌+◌, ◌*◌, ◌<◌, ◌≤◌, cond, ◌&&◌, List, take, drop, Some, None, Option, nat_lt}
 use Rattle.opentype.specs.Numbers.{number_of}
 use Rattle.read.specs.Scopes.{Slice, scope_over}
 use Rattle.read.specs.Ctxts.{start, moved}
@@ -42,3 +42,8 @@ table_at a i = cond (nat_lt i a.count && reaches 16 a i) (Some (record_of (item_
 -- The same of a whole array, which has every record that it counts.
 abbrev pub table_in : Array → ℕ → TableRecord
 table_in a i = record_of (item_bytes 16 a i)
+
+-- A step over the tables of an array from number i on: table i and the next number, or none past the last.
+abbrev pub TableGiven : Array → ℕ → Option TableRecord → ℕ → Type 0
+TableGiven a i (Some t) next = (i < a.count) × (t ≡ table_in a i) × (next ≡ i + 1)
+TableGiven a i None next = a.count ≤ i

@@ -1,10 +1,11 @@
-ghost use Rattle.std.specs.Prelude.{◌≡◌, ◌<◌, [], ◌∷◌, length as many, IfOk, Some, nat_lt};
+ghost use Rattle.std.specs.Prelude.{◌≡◌, ◌-◌, ◌<◌, [], ◌∷◌, length as many, IfOk, Some, nat_lt};
+ghost use Rattle.std.specs.Iterator.{at_most};
 ghost use Rattle.refusals.specs.declared.refusal.Refusal.TheVariants.{BadEof};
 ghost use Rattle.refusals.specs.Answers.{told, due, judged};
 ghost use Rattle.read.specs.Scopes.{slice};
 ghost use Rattle.arrays.specs.Arrays.{array, Whole};
 ghost use Rattle.directory.specs.Tags.{tag_search, Ascending, TagFound};
-ghost use Rattle.directory.specs.Tables.{header, extent, records, table_at, table_in};
+ghost use Rattle.directory.specs.Tables.{header, extent, records, table_at, table_in, TableGiven};
 
 use arrays::{ReadArray, read_array};
 use read::ReadScope;
@@ -33,6 +34,7 @@ pub struct TableRecord {
 pub struct Directory<'a> {
     header: Header,
     records: ReadArray<'a, (U32Be, U32Be, U32Be, U32Be)>,
+    ghost whole: { Whole 16 (array records) },
 }
 
 // The font's directory, or BadEof if the header or a record is cut.
@@ -41,28 +43,14 @@ pub fn read_directory(font: &[u8]) -> Result<Directory<'_>, Refusal>
     ensures records { IfOk result (λ d. array d.records ≡ records (slice font.entry)) }
     ensures whole { IfOk result (λ d. Whole 16 (array d.records)) }
 {
-    directory_of(font)
-}
-
-fn directory_of(font: &[u8]) -> Result<Directory<'_>, Refusal>
-    ensures header { told (λ d. d.header) result ≡ judged (due BadEof (nat_lt (many font.now) (extent font.now)) ∷ []) (header font.now) }
-    ensures records { IfOk result (λ d. array d.records ≡ records (slice font.entry)) }
-    ensures whole { IfOk result (λ d. Whole 16 (array d.records)) }
-{
     let mut ctxt = ReadScope::new(font).ctxt();
-    let Ok((version, count)) = ctxt.read::<(U32Be, U16Be)>() else {
-        return Err(Refusal::BadEof);
-    };
-    let Ok(_) = ctxt.read::<(U16Be, U16Be, U16Be)>() else {
-        return Err(Refusal::BadEof);
-    };
-    match read_array(&mut ctxt, usize::from(count)) {
-        Ok(records) => Ok(Directory {
-            header: Header { version, count },
-            records,
-        }),
-        Err(_) => Err(Refusal::BadEof),
-    }
+    let (version, count) = ctxt.read::<(U32Be, U16Be)>()?;
+    let _ = ctxt.read::<(U16Be, U16Be, U16Be)>()?;
+    let records = read_array(&mut ctxt, usize::from(count))?;
+    Ok(Directory {
+        header: Header { version, count },
+        records,
+    })
 }
 
 impl Directory<'_> {
@@ -70,8 +58,7 @@ impl Directory<'_> {
     pub fn header(&self) -> Header
         ensures value { result ≡ self.now.header }
     {
-        let header = self.header;
-        header
+        self.header
     }
 
     // How many tables there are.
@@ -84,35 +71,60 @@ impl Directory<'_> {
     // The record of table `i`, or none past the last.
     pub fn table(&self, i: usize) -> Option<TableRecord>
         ensures value { result ≡ table_at (array self.now.records) i }
-        ensures whole { Whole 16 (array self.now.records) → i < (array self.now.records).count → result ≡ Some (table_in (array self.now.records) i) }
+        ensures whole { i < (array self.now.records).count → result ≡ Some (table_in (array self.now.records) i) }
     {
-        match self.records.get_item(i) {
-            Some((tag, checksum, offset, length)) => Some(TableRecord {
-                tag,
-                checksum,
-                offset,
-                length,
-            }),
-            None => None,
+        self.records.get_item(i).map(|(tag, checksum, offset, length)| TableRecord {
+            tag,
+            checksum,
+            offset,
+            length,
+        })
+    }
+
+    // The tables, in order.
+    pub(crate) fn tables(&self) -> Tables<'_>
+        ensures directory { result.directory.now ≡ self.now }
+        ensures first { result.index ≡ 0 }
+    {
+        Tables {
+            directory: self,
+            index: 0,
         }
     }
 
     // The number of a table with that tag, by a search among tags that ascend.
     pub fn find(&self, tag: u32) -> Option<usize>
         ensures value { result ≡ tag_search (array self.now.records) tag }
-        ensures found { Whole 16 (array self.now.records) → Ascending (array self.now.records) → TagFound (array self.now.records) tag result }
-    {
-        self.search(tag)
-    }
-
-    fn search(&self, tag: u32) -> Option<usize>
-        ensures value { result ≡ tag_search (array self.now.records) tag }
-        ensures found { Whole 16 (array self.now.records) → Ascending (array self.now.records) → TagFound (array self.now.records) tag result }
+        ensures found { Ascending (array self.now.records) → TagFound (array self.now.records) tag result }
     {
         let probe = FirstNumber::<U32Be>::new(tag);
-        match binary_search_by(&self.records, &probe) {
-            Ok(i) => Some(i),
-            Err(_) => None,
+        binary_search_by(&self.records, &probe).ok()
+    }
+}
+
+// The tables of a directory from the one at `index` on. (Tried over the array's own iterator: the check did not
+// prove the invariant of the loop that prints the tables.)
+#[derive(Drop)]
+pub(crate) struct Tables<'a> {
+    directory: &'a Directory<'a>,
+    index: usize,
+}
+
+// The tables one after the other.
+impl Iterator for Tables<'_> {
+    type Item = TableRecord;
+
+    ghost next_gives = { λ s r t. TableGiven (array s.directory.now.records) s.index r t.index × (t.directory ≡ s.directory) };
+
+    ghost remaining = { λ s. at_most ((array s.directory.now.records).count - s.index) };
+
+    // The next table.
+    fn next(&mut self) -> Option<TableRecord> {
+        if self.index >= self.directory.len() {
+            return None;
         }
+        let table = self.directory.table(self.index);
+        self.index += 1;
+        table
     }
 }

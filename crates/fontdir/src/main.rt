@@ -11,9 +11,7 @@ const LONGEST: u64 = 67_108_864;
 fn main(rt: HostRuntime) -> io::Result<()> {
     let mut font = Vec::new(rt.alloc());
     rt.stdin().take(LONGEST).read_to_end(&mut font)?;
-    let mut args = env::args(&rt)?;
-    let _ = args.next();
-    let text = match args.next() {
+    let text = match env::args(&rt)?.nth(1) {
         Some(tag) => table_named(rt.alloc(), font.as_slice(), tag.as_bytes())?,
         None => listing(rt.alloc(), font.as_slice())?,
     };

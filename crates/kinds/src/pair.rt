@@ -4,7 +4,8 @@ ghost use Rattle.kinds.specs.Sides.{beside};
 use crate::kind::Kind;
 use crate::scalar::Scalar;
 
-// Two scalars side by side.
+// Two scalars side by side. Tuples of two, three and four are kinds each by its own: no generic code is over
+// the length of a tuple, and a value is to be a plain tuple of numbers.
 impl<A: Scalar, B: Scalar> Kind for (A, B) {
     type HostType = (A::HostType, B::HostType);
 
@@ -32,10 +33,10 @@ impl<A: Scalar, B: Scalar> Kind for (A, B) {
     }
 
     unsafe fn write_unchecked(v: (A::HostType, B::HostType), out: &mut [u8]) {
-        let m = <A as Scalar>::size();
+        let (first, second) = out.split_at_mut(<A as Scalar>::size());
         unsafe {
-            A::write_unchecked(v.0, &mut out[0..m]);
-            B::write_unchecked(v.1, &mut out[m..]);
+            A::write_unchecked(v.0, first);
+            B::write_unchecked(v.1, second);
         }
     }
 }

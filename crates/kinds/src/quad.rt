@@ -48,10 +48,14 @@ impl<A: Scalar, B: Scalar, C: Scalar, D: Scalar> Kind for (A, B, C, D) {
         v: (A::HostType, B::HostType, C::HostType, D::HostType),
         out: &mut [u8],
     ) {
-        let m = <A as Scalar>::size();
+        let (first, rest) = out.split_at_mut(<A as Scalar>::size());
+        let (second, rest) = rest.split_at_mut(<B as Scalar>::size());
+        let (third, fourth) = rest.split_at_mut(<C as Scalar>::size());
         unsafe {
-            A::write_unchecked(v.0, &mut out[0..m]);
-            <(B, C, D)>::write_unchecked((v.1, v.2, v.3), &mut out[m..]);
+            A::write_unchecked(v.0, first);
+            B::write_unchecked(v.1, second);
+            C::write_unchecked(v.2, third);
+            D::write_unchecked(v.3, fourth);
         }
     }
 }

@@ -7,7 +7,8 @@ pub trait Scalar: Kind {
     // The number that a host value is.
     ghost integer: { Self.HostType → ℤ };
 
-    // How many bytes a value takes, at most 8.
+    // How many bytes a value takes, at most 8. (The kind's own question promises at most 64; each promises its bound
+    // by its contract, and not by a law.)
     fn size() -> usize
         ensures value { result ≡ Self.Kind.width }
         ensures some { 1 ≤ result }

@@ -40,10 +40,12 @@ impl<A: Scalar, B: Scalar, C: Scalar> Kind for (A, B, C) {
     }
 
     unsafe fn write_unchecked(v: (A::HostType, B::HostType, C::HostType), out: &mut [u8]) {
-        let m = <A as Scalar>::size();
+        let (first, rest) = out.split_at_mut(<A as Scalar>::size());
+        let (second, third) = rest.split_at_mut(<B as Scalar>::size());
         unsafe {
-            A::write_unchecked(v.0, &mut out[0..m]);
-            <(B, C)>::write_unchecked((v.1, v.2), &mut out[m..]);
+            A::write_unchecked(v.0, first);
+            B::write_unchecked(v.1, second);
+            C::write_unchecked(v.2, third);
         }
     }
 }

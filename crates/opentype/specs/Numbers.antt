@@ -1,10 +1,10 @@
 -- The number formats of the OpenType data types: unsigned and two's complement numbers of n bytes, the most significant byte first.
 use Rattle.std.specs.Prelude.{ℕ, zero, suc, ◌+◌, ◌-◌, ◌*◌, ◌/◌, ◌%◌, ◌^◌, ◌<◌, Bool, cond, List, [], ◌∷◌, length, ℤ, pos, negsuc, nat_lt}
-use Rattle.std.specs.List.{AllByRecursion}
+use Rattle.std.specs.List.{All}
 
 -- Each number of the list is a byte.
 abbrev pub Bytes : List ℕ → Type 0
-Bytes bs = AllByRecursion (λ b. b < 256) bs
+Bytes bs = All (λ b. b < 256) bs
 
 -- The n bytes of a number: the first is v / 256^(n-1) modulo 256, and the others are the n-1 bytes of v.
 abbrev pub big_endian : ℕ → ℕ → List ℕ

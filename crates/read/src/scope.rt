@@ -8,7 +8,9 @@ mod ctxt;
 
 pub use ctxt::ReadCtxt;
 
-// A part of a font's bytes, and how far from the font's start it begins.
+// A part of a font's bytes, and how far from the font's start it begins. (It has no `Model`, which a `Copy`
+// type with a lifetime may not have; contracts speak of its `view`. That it is sound, each call that makes
+// one promises, and not the type: a rule of this project, as is said in docs/DECISIONS.md.)
 #[derive(Clone, Copy)]
 pub struct ReadScope<'a> {
     base: usize,
@@ -31,8 +33,7 @@ impl<'a> ReadScope<'a> {
     pub fn data(&self) -> &'a [u8]
         ensures value { slice result ≡ (view self.now).slice }
     {
-        let data = self.data;
-        data
+        self.data
     }
 
     // The scope from `offset` on, which is empty past the end.
@@ -40,9 +41,7 @@ impl<'a> ReadScope<'a> {
         ensures answer { told view result ≡ judged (offset_dues (view self.now) offset) (scope_at (view self.now) offset (size (view self.now) - offset)) }
         ensures sound { Sound (view self.now) → IfOk result (λ s. Sound (view s)) }
     {
-        let Some(base) = self.base.checked_add(offset) else {
-            return Err(Refusal::Overflow);
-        };
+        let base = self.base.checked_add(offset).ok_or(Refusal::Overflow)?;
         let from = offset.min(self.data.len());
         Ok(ReadScope {
             base,
@@ -63,9 +62,7 @@ impl<'a> ReadScope<'a> {
         if length > size - from {
             return Err(Refusal::BadEof);
         }
-        let Some(base) = self.base.checked_add(offset) else {
-            return Err(Refusal::Overflow);
-        };
+        let base = self.base.checked_add(offset).ok_or(Refusal::Overflow)?;
         Ok(ReadScope {
             base,
             data: &self.data[from..from + length],

@@ -1,29 +1,44 @@
--- How many rows are in a state, row by row.
-use Rattle.std.proofs.Common.{◌≡◌, ℕ, zero, suc, ◌+◌, ◌<◌, List, [], ◌∷◌, ◌++◌, length, get_or, take, set, sym, refl, ap, ◌∙◌, arith}
-use Rattle.std.proofs.lemmas.List.{take_more}
+-- How many rows are in a state: as a count of those that pass a test, and of rows joined, changed and taken together.
+use Rattle.std.proofs.Common.{◌≡◌, ℕ, zero, suc, ◌+◌, ◌<◌, ◌==◌, cond, List, [], ◌∷◌, ◌++◌, length, set, refl, ◌∙◌, arith}
+use Rattle.std.specs.List.{count_by}
+use Rattle.std.proofs.lemmas.List.Sums.{sum_by-cons}
 use Rattle.register.specs.declared.register.State.{State}
 use Rattle.register.specs.declared.register.State.TheVariants.{Open, Filled, Spoiled}
 use Rattle.register.specs.declared.register.Row.{Row}
-use Rattle.register.specs.Rows.{opened, row, is_open, is_filled, is_spoiled, state_count}
+use Rattle.register.specs.Rows.{row, is_open, is_filled, is_spoiled, state_count, counted}
 
+-- the rows that pass the test of a state are as many as that state counts
+pub count_by-counted : (s : State) (rs : List Row) → count_by (λ r. counted s r.state == 1) rs ≡ state_count (counted s) rs
+count_by-counted s [] = refl
+count_by-counted s (r ∷ rs) = sum_by-cons _ r rs ∙ (λ i. one s r.state i + count_by-counted s rs i)
+  where
+    one : (s t : State) → cond (counted s t == 1) 1 0 ≡ counted s t
+    one Open Open = refl
+    one Open Filled = refl
+    one Open Spoiled = refl
+    one Filled Open = refl
+    one Filled Filled = refl
+    one Filled Spoiled = refl
+    one Spoiled Open = refl
+    one Spoiled Filled = refl
+    one Spoiled Spoiled = refl
+
+-- rows joined count together
 pub state_count-append : (f : State → ℕ) (rs qs : List Row) → state_count f (rs ++ qs) ≡ state_count f rs + state_count f qs
 state_count-append f [] qs = omega arith
 state_count-append f (r ∷ rs) qs = let h = state_count-append f rs qs in omega arith
 
+-- one row more counts one more, or none
 pub state_count_push : (f : State → ℕ) (rs : List Row) (r : Row) → state_count f (rs ++ r ∷ []) ≡ state_count f rs + f r.state
 state_count_push f rs r = let h = state_count-append f rs (r ∷ []) in omega arith
 
+-- a row that is changed counts by its new state in place of the old
 pub state_count-set : (f : State → ℕ) (rs : List Row) (n : ℕ) (r : Row) → n < length rs → state_count f (set rs n r) + f (row rs n).state ≡ state_count f rs + f r.state
 state_count-set f [] n r h = absurd (let z : ⊥ = omega arith in z)
 state_count-set f (q ∷ rs) zero r h = omega arith
 state_count-set f (q ∷ rs) (suc n) r h = let k = state_count-set f rs n r (omega arith) in omega arith
 
--- a turn of the loop that counts
-pub state_count_more : (f : State → ℕ) (rs : List Row) (i a b : ℕ) (s : State) → i < length rs → a ≡ state_count f (take i rs) → (get_or rs i (opened 0 0)).state ≡ s → b ≡ a + f s → b ≡ state_count f (take (i + 1) rs)
-state_count_more f rs i a b s h p q e =
-    let r = sym q in
-    e ∙ (λ j. p j + f (r j)) ∙ sym (ap (state_count f) (take_more rs i (opened 0 0) h) ∙ state_count_push f (take i rs) (get_or rs i (opened 0 0)))
-
+-- each row is filled, spoiled or open
 pub state_count_all : (rs : List Row) → length rs ≡ state_count is_filled rs + (state_count is_spoiled rs + state_count is_open rs)
 state_count_all [] = refl
 state_count_all (r ∷ rs) = let h = state_count_all rs in let o = one r.state in omega arith

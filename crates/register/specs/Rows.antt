@@ -1,21 +1,16 @@
 -- The register of places, as the list of the rows taken; a place's number is its index there.
-use Rattle.std.specs.Prelude.{ℕ, zero, suc, ◌+◌, ◌*◌, Bool, true, false, cond, ◌&&◌, ◌||◌, List, [], ◌∷◌, ◌++◌, length, take, Some, None, Option, nat_lt, slice_index_or, slice_set}
+use Rattle.std.specs.Prelude.{ℕ, zero, suc, ◌+◌, ◌*◌, Bool, true, false, cond, ◌&&◌, ◌||◌, List, [], ◌∷◌, ◌++◌, length, Some, None, Option, nat_lt, slice_index_or, slice_set}
 use Rattle.opentype.specs.Alignment.{largest}
 use Rattle.register.specs.declared.register.State.{State}
 use Rattle.register.specs.declared.register.State.TheVariants.{Open, Filled, Spoiled}
 use Rattle.register.specs.declared.register.Event.{Event}
 use Rattle.register.specs.declared.register.Event.TheVariants.{Fill, Refuse, Abandon}
 use Rattle.register.specs.declared.register.Row.{Row}
-use Rattle.register.specs.declared.register.Register.{Register}
 use Rattle.register.specs.declared.register.Tally.{Tally}
 
 -- How many places may be taken.
 abbrev pub capacity : ℕ
 capacity = 256
-
--- The rows taken.
-abbrev pub listed : Register → List Row
-listed g = take g.taken g.rows
 
 -- An open row of n bytes from `at` on.
 abbrev pub opened : ℕ → ℕ → Row
@@ -97,6 +92,12 @@ abbrev pub is_spoiled : State → ℕ
 is_spoiled Open = 0
 is_spoiled Filled = 0
 is_spoiled Spoiled = 1
+
+-- What counts 1 for that state.
+abbrev pub counted : State → State → ℕ
+counted Open = is_open
+counted Filled = is_filled
+counted Spoiled = is_spoiled
 
 -- How many rows are in the states that f counts.
 abbrev pub state_count : (State → ℕ) → List Row → ℕ

@@ -2,4 +2,4 @@
 
 mod register;
 
-pub use register::{Event, Register, Row, State, Tally};
+pub use register::{Event, Places, Register, Row, State, Tally};

@@ -15,7 +15,7 @@ read_in_bytes n u bs h b =
     let same : bs ≡ big_endian n u = fill_by_all f bs n 0 b.long b.byte ∙ sym (fill_by_all f (big_endian n u) n 0 (length-big_endian n u) (get_or-big_endian n u)) in
     ap number_of same ∙ number_of-big_endian n u h
 
-pub is_unsigned : {K : Type 0} (n : ℕ) → IsUnsigned {K = K} n (record { width = n; fitting = unsigned_fits n; bytes = big_endian n; value = number_of }) (record { integer = pos })
+pub is_unsigned : {K : Type 0} (n : ℕ) → IsUnsigned {K = K} n (record { width = n; fitting = unsigned_fits n; bytes = big_endian n; value = number_of }) pos
 is_unsigned n = record {
   size = refl;
   fits = λ v. refl;
@@ -24,7 +24,7 @@ is_unsigned n = record {
   number = λ v. refl;
 }
 
-pub is_signed : {K : Type 0} (n : ℕ) → IsSigned {K = K} n (record { width = n; fitting = signed_fits n; bytes = λ v. big_endian n (complement n v); value = λ bs. signed n (number_of bs) }) (record { integer = λ v. v })
+pub is_signed : {K : Type 0} (n : ℕ) → IsSigned {K = K} n (record { width = n; fitting = signed_fits n; bytes = λ v. big_endian n (complement n v); value = λ bs. signed n (number_of bs) }) (λ v. v)
 is_signed n = record {
   size = refl;
   fits = λ v. refl;

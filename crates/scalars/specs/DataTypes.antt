@@ -2,7 +2,6 @@
 use Rattle.std.specs.Prelude.{◌≡◌, ℕ, ◌-◌, ◌/◌, ◌%◌, ◌^◌, ◌<◌, true, List, length, ℤ, pos, slice_index}
 use Rattle.opentype.specs.Numbers.{unsigned_fits, signed_fits, complement, signed}
 use Rattle.kinds.specs.declared.kind.Kind as Kinds
-use Rattle.kinds.specs.declared.scalar.Scalar as Scalars
 
 -- These are the n bytes of u, the most significant first: byte i is u divided by 256^(n-1-i), modulo 256.
 pub record InBytes (n u : ℕ) (bs : List ℕ) : Type 0 where
@@ -10,7 +9,7 @@ pub record InBytes (n u : ℕ) (bs : List ℕ) : Type 0 where
   pub byte : (i : ℕ) → i < n → slice_index bs i ≡ (u / 256 ^ (n - 1 - i)) % 256
 
 -- A kind is the unsigned number of n bytes.
-pub record IsUnsigned {K : Type 0} (n : ℕ) (k : Kinds.Ghosts K ℕ) (s : Scalars.Ghosts K ℕ) : Type 0 where
+pub record IsUnsigned {K : Type 0} (n : ℕ) (k : Kinds.Ghosts K ℕ) (integer : ℕ → ℤ) : Type 0 where
   pub size : k.width ≡ n
   -- those below 256^n fit, and no others
   pub fits : (v : ℕ) → k.fitting v ≡ unsigned_fits n v
@@ -19,10 +18,10 @@ pub record IsUnsigned {K : Type 0} (n : ℕ) (k : Kinds.Ghosts K ℕ) (s : Scala
   -- and a number's bytes are read as the number
   pub reads : (bs : List ℕ) (u : ℕ) → u < 256 ^ n → InBytes n u bs → k.value bs ≡ u
   -- the host value is the number
-  pub number : (v : ℕ) → s.integer v ≡ pos v
+  pub number : (v : ℕ) → integer v ≡ pos v
 
 -- A kind is the signed number of n bytes, in two's complement.
-pub record IsSigned {K : Type 0} (n : ℕ) (k : Kinds.Ghosts K ℤ) (s : Scalars.Ghosts K ℤ) : Type 0 where
+pub record IsSigned {K : Type 0} (n : ℕ) (k : Kinds.Ghosts K ℤ) (integer : ℤ → ℤ) : Type 0 where
   pub size : k.width ≡ n
   -- those from -(256^n / 2) to 256^n / 2 - 1 fit, and no others
   pub fits : (v : ℤ) → k.fitting v ≡ signed_fits n v
@@ -31,4 +30,4 @@ pub record IsSigned {K : Type 0} (n : ℕ) (k : Kinds.Ghosts K ℤ) (s : Scalars
   -- and the bytes of u are read as the signed number that u stands for
   pub reads : (bs : List ℕ) (u : ℕ) → u < 256 ^ n → InBytes n u bs → k.value bs ≡ signed n u
   -- the host value is the number
-  pub number : (v : ℤ) → s.integer v ≡ v
+  pub number : (v : ℤ) → integer v ≡ v

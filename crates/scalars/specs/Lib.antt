@@ -1,3 +1,2 @@
 pub mod DataTypes
-pub mod Standard
 pub mod Formats

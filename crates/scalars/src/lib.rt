@@ -1,24 +1,12 @@
 #![tactic(auto)]
 
-mod bytes;
-mod int16;
-mod int32;
-mod int64;
-mod int8;
+mod big_endian;
+mod format;
+mod signed;
 mod standard;
-mod uint16;
-mod uint24;
-mod uint32;
-mod uint64;
-mod uint8;
+mod unsigned;
 
-pub use int8::I8;
-pub use int16::I16Be;
-pub use int32::I32Be;
-pub use int64::I64Be;
+pub use big_endian::{BigEndian, I8, I16Be, I32Be, I64Be, U8, U16Be, U24Be, U32Be, U64Be};
+pub use format::Format;
 pub use standard::data_types;
-pub use uint8::U8;
-pub use uint16::U16Be;
-pub use uint24::U24Be;
-pub use uint32::U32Be;
-pub use uint64::U64Be;
+pub use unsigned::U24;

@@ -21,19 +21,20 @@ pub fn binary_search_by<'a, K: Kind, P: Probe<K>>(
     halve(items, probe)
 }
 
-// Halves what is left until the middle is equal or nothing is left.
+// The same, with the loop; apart from its caller, so that a wrong caller is refused at this contract.
+// It halves what is left until the middle is equal or nothing is left.
 fn halve<'a, K: Kind, P: Probe<K>>(items: &ReadArray<'a, K>, probe: &P) -> Result<usize, usize>
     ensures value { result ≡ halves (asked K.width K.value (P.answers probe.now) (array items.now)) (array items.now).count 0 (array items.now).count }
     ensures found { Whole K.width (array items.now) → Runs (said_of K.width K.value (P.answers probe.now) (array items.now)) (array items.now).count → Found (said_of K.width K.value (P.answers probe.now) (array items.now)) (array items.now).count result }
 {
-    let mut size = items.len();
     let mut left = 0;
-    let mut right = size;
-    let r = loop {
+    let mut right = items.len();
+    loop {
         if left >= right {
             break Err(left);
         }
-        let mid = left + size / 2;
+        let mid = left + (right - left) / 2;
+        // The loop is left with an answer here, so no `?` will do.
         let Some(v) = items.get_item(mid) else {
             break Err(left);
         };
@@ -42,7 +43,5 @@ fn halve<'a, K: Kind, P: Probe<K>>(items: &ReadArray<'a, K>, probe: &P) -> Resul
             Ordering::Greater => right = mid,
             Ordering::Equal => break Ok(mid),
         }
-        size = right - left;
-    };
-    r
+    }
 }

@@ -5,13 +5,14 @@ use crate::probe::Probe;
 use kinds::Scalar;
 use std::cmp::Ordering;
 
-// Looks for a number.
+// Looks for a number. (`FirstNumber` holds the same and looks for a tuple: the name says which.)
 #[derive(Drop)]
 pub struct Number<A: Scalar> {
     want: A::HostType,
 }
 
 impl<A: Scalar> Number<A> {
+    // A probe for that number.
     pub fn new(want: A::HostType) -> Number<A>
         ensures value { result.want ≡ want }
     {
@@ -23,19 +24,6 @@ impl<A: Scalar> Probe<A> for Number<A> {
     ghost answers = { λ p v. order (A.Scalar.integer v) (A.Scalar.integer p.want) };
 
     fn probe(&self, v: A::HostType) -> Ordering {
-        compare(A::to_i128(v), A::to_i128(self.want))
-    }
-}
-
-// How one number stands to another.
-pub(crate) fn compare(a: i128, b: i128) -> Ordering
-    ensures value { result ≡ order a b }
-{
-    if a < b {
-        Ordering::Less
-    } else if b < a {
-        Ordering::Greater
-    } else {
-        Ordering::Equal
+        A::to_i128(v).cmp(&A::to_i128(self.want))
     }
 }

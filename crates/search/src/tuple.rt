@@ -1,7 +1,6 @@
 ghost use Rattle.std.specs.Prelude.{◌≡◌};
 ghost use Rattle.search.specs.Orders.{order};
 
-use crate::number::compare;
 use crate::probe::Probe;
 use kinds::Scalar;
 use std::cmp::Ordering;
@@ -13,6 +12,7 @@ pub struct FirstNumber<A: Scalar> {
 }
 
 impl<A: Scalar> FirstNumber<A> {
+    // A probe for tuples that begin with that number.
     pub fn new(want: A::HostType) -> FirstNumber<A>
         ensures value { result.want ≡ want }
     {
@@ -20,12 +20,13 @@ impl<A: Scalar> FirstNumber<A> {
     }
 }
 
+// Once for each length that a tuple kind has: a trait for "the first part" would be implemented as often.
 impl<A: Scalar, B: Scalar> Probe<(A, B)> for FirstNumber<A> {
     ghost answers = { λ p v. order (A.Scalar.integer v.0) (A.Scalar.integer p.want) };
 
     fn probe(&self, v: (A::HostType, B::HostType)) -> Ordering {
         let (first, _) = v;
-        compare(A::to_i128(first), A::to_i128(self.want))
+        A::to_i128(first).cmp(&A::to_i128(self.want))
     }
 }
 
@@ -34,7 +35,7 @@ impl<A: Scalar, B: Scalar, C: Scalar> Probe<(A, B, C)> for FirstNumber<A> {
 
     fn probe(&self, v: (A::HostType, B::HostType, C::HostType)) -> Ordering {
         let (first, _, _) = v;
-        compare(A::to_i128(first), A::to_i128(self.want))
+        A::to_i128(first).cmp(&A::to_i128(self.want))
     }
 }
 
@@ -43,6 +44,6 @@ impl<A: Scalar, B: Scalar, C: Scalar, D: Scalar> Probe<(A, B, C, D)> for FirstNu
 
     fn probe(&self, v: (A::HostType, B::HostType, C::HostType, D::HostType)) -> Ordering {
         let (first, _, _, _) = v;
-        compare(A::to_i128(first), A::to_i128(self.want))
+        A::to_i128(first).cmp(&A::to_i128(self.want))
     }
 }

@@ -1,17 +1,10 @@
--- A writer of the program as the state that steps and runs speak of, and what its calls are given and answer.
+-- What the calls of a writer of the program are given and answer, as steps and runs speak of it.
 use Rattle.std.specs.Prelude.{ℕ, Result}
 use Rattle.refusals.specs.declared.refusal.Refusal.{Refusal}
 use Rattle.refusals.specs.Answers.{Answer, told}
-use Rattle.register.specs.Rows.{listed}
 use Rattle.runs.specs.Calls.{Target, token, run_item, Given, nothing, place, run, written}
-use Rattle.runs.specs.Steps.{Held}
 use Rattle.writer.specs.declared.writer.Placeholder.{Placeholder}
 use Rattle.writer.specs.declared.writer.Run.{Run}
-use Rattle.writer.specs.declared.writer.Writer.{Writer}
-
--- What a writer holds: its context, and the rows of the places taken.
-abbrev pub held : {C : Type 0} → Writer C → Held C
-held w = record { context = w.context; rows = listed w.register }
 
 -- The place that a Placeholder names.
 abbrev pub by_token : Placeholder → Target

@@ -1,5 +1,6 @@
 use context::WriteContext;
 use register::Register;
+use std::marker::Model;
 
 mod adding;
 mod filling;
@@ -14,7 +15,7 @@ pub struct Placeholder {
 }
 
 // Places taken together, which follow one another. Anyone may make one up: the register judges.
-#[derive(Clone, Copy)]
+#[derive(Clone, Copy, PartialEq, Eq, Debug)]
 pub struct Run {
     pub first: usize,
     pub count: usize,
@@ -25,4 +26,13 @@ pub struct Run {
 pub struct Writer<C: WriteContext> {
     context: C,
     register: Register,
+}
+
+// A writer is seen as the state that steps and runs speak of: its context, and the rows of the places taken.
+impl<C: WriteContext> Model for Writer<C> {
+    ghost use Rattle.runs.specs.Steps.{Held};
+
+    ghost Value = { Held C };
+
+    ghost view = { λ w. record { context = w.context; rows = w.register } };
 }

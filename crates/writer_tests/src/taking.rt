@@ -14,6 +14,7 @@ fn empty_places_at_one_offset(rt: HostRuntime) -> Result<(), Fail> {
     let p = w.reserve(0)?;
     let q = w.reserve(0);
     let filled = w.write_placeholder_dep(p, ReadScope::new(&[]));
+    // The token was taken before the fill, so it is asked for here.
     let Ok(q) = q else {
         return Err(Fail::new("no second place"));
     };
@@ -89,16 +90,8 @@ fn too_many_places_are_refused_in_order(rt: HostRuntime) {
     let wraps = w.placeholder_array::<U16Be>(usize::MAX);
     let full = w.placeholder_array::<U8>(usize::MAX);
     let short = w.placeholder_array::<U8>(2);
-    assert_eq!(rt; refusal(wraps), Some(Refusal::Overflow));
-    assert_eq!(rt; refusal(full), Some(Refusal::RegisterFull));
-    assert_eq!(rt; refusal(short), Some(Refusal::NoSpace));
+    assert_eq!(rt; wraps.err(), Some(Refusal::Overflow));
+    assert_eq!(rt; full.err(), Some(Refusal::RegisterFull));
+    assert_eq!(rt; short.err(), Some(Refusal::NoSpace));
     assert_eq!(rt; w.finish(), Ok(0));
-}
-
-// What a taking was refused with.
-fn refusal(taken: Result<writer::Run, Refusal>) -> Option<Refusal> {
-    match taken {
-        Ok(_) => None,
-        Err(e) => Some(e),
-    }
 }

@@ -10,7 +10,8 @@ use kinds::Kind;
 use refusals::Refusal;
 use scalars::{I8, I16Be, I32Be, I64Be, U8, U16Be, U32Be, U64Be};
 
-// A scope and a position in it, which moves on as values are read.
+// A scope and a position in it, which moves on as values are read. (Contracts speak of its `state`, for the
+// reason that a scope has no `Model`.)
 #[derive(Clone, Copy)]
 pub struct ReadCtxt<'a> {
     scope: ReadScope<'a>,
@@ -39,29 +40,27 @@ impl<'a> ReadScope<'a> {
 }
 
 impl<'a> ReadCtxt<'a> {
+    // Three names of the original, kept by the same rule as the reads below, for one thing, `Refusal::unless`.
+
     // BadValue unless the condition holds.
     pub fn check(&self, cond: bool) -> Result<(), Refusal>
         ensures answer { told (λ t. t) result ≡ judged (due BadValue (not cond) ∷ []) tt }
     {
-        if cond { Ok(()) } else { Err(Refusal::BadValue) }
+        Refusal::BadValue.unless(cond)
     }
 
     // BadIndex unless the condition holds.
     pub fn check_index(&self, cond: bool) -> Result<(), Refusal>
         ensures answer { told (λ t. t) result ≡ judged (due BadIndex (not cond) ∷ []) tt }
     {
-        if cond { Ok(()) } else { Err(Refusal::BadIndex) }
+        Refusal::BadIndex.unless(cond)
     }
 
     // BadVersion unless the condition holds.
     pub fn check_version(&self, cond: bool) -> Result<(), Refusal>
         ensures answer { told (λ t. t) result ≡ judged (due BadVersion (not cond) ∷ []) tt }
     {
-        if cond {
-            Ok(())
-        } else {
-            Err(Refusal::BadVersion)
-        }
+        Refusal::BadVersion.unless(cond)
     }
 
     // The scope of what remains.
@@ -110,16 +109,9 @@ impl<'a> ReadCtxt<'a> {
         ensures after { state self.new ≡ after (take_dues (state self.old) length) (state self.old) (moved (state self.old) length) }
         ensures sound { Sound (state self.old) → Sound (state self.new) × IfOk result (λ s. SoundScope (view s)) }
     {
-        if self.lacks(length) {
-            return Err(Refusal::BadEof);
-        }
-        let from = self.offset.min(self.scope.data.len());
         let base = self.scope.base.saturating_add(self.offset);
-        self.offset += length;
-        Ok(ReadScope {
-            base,
-            data: &self.scope.data[from..from + length],
-        })
+        let data = self.read_slice(length)?;
+        Ok(ReadScope { base, data })
     }
 
     // The next value of a kind.
@@ -129,14 +121,12 @@ impl<'a> ReadCtxt<'a> {
         ensures fit { IfOk result (λ v. K.fitting v ≡ true) }
         ensures sound { Sound (state self.old) → Sound (state self.new) }
     {
-        let size = K::size();
-        if self.lacks(size) {
-            return Err(Refusal::BadEof);
-        }
-        let from = self.offset.min(self.scope.data.len());
-        self.offset += size;
-        Ok(unsafe { K::read_unchecked(&self.scope.data[from..from + size]) })
+        let part = self.read_slice(K::size())?;
+        Ok(unsafe { K::read_unchecked(part) })
     }
+
+    // The reads that follow are the original's by name, a rule of this port (docs/DECISIONS.md). Each is one line
+    // over `read`.
 
     // The next unsigned number of 8 bits.
     pub fn read_u8(&mut self) -> Result<u8, Refusal>

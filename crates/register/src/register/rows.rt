@@ -1,8 +1,8 @@
-ghost use Rattle.std.specs.Prelude.{◌≡◌, ◌+◌, ◌*◌, ◌≤◌, [], ◌++◌, length as many, nat_le};
+ghost use Rattle.std.specs.Prelude.{◌≡◌, ◌+◌, ◌*◌, ◌<◌, ◌≤◌, [], ◌∷◌, ◌++◌, length as many, nat_le};
 ghost use Rattle.opentype.specs.Alignment.{largest};
-ghost use Rattle.register.specs.Rows.{stepped, listed, lacking, open_at, struck, in_a_row, added, tallied, state_count, is_open, is_filled, is_spoiled};
+ghost use Rattle.register.specs.Rows.{capacity, opened, stepped, lacking, open_at, struck, in_a_row, added, tallied, state_count, counted};
 
-use super::{Event, Register, Row, State, Tally};
+use super::{Event, Places, Register, Row, State, Tally};
 
 impl Row {
     // What the event makes of the row: only an open one changes.
@@ -17,10 +17,34 @@ impl Row {
     }
 }
 
+impl Places {
+    // Whether the places end within the largest usize.
+    fn fit(self) -> bool
+        ensures value { result ≡ nat_le (self.offset + self.count * self.length) largest }
+    {
+        self.count
+            .checked_mul(self.length)
+            .is_some_and(|size| size <= usize::MAX - self.offset)
+    }
+
+    // The row of the place of that index, which is open.
+    fn row(self, index: usize) -> Row
+        requires there { index < self.count }
+        requires fit { self.offset + self.count * self.length ≤ largest }
+        ensures value { result ≡ opened (self.offset + index * self.length) self.length }
+    {
+        Row {
+            offset: self.offset + index * self.length,
+            length: self.length,
+            state: State::Open,
+        }
+    }
+}
+
 impl Register {
     // A register of which no place was taken.
     pub fn new() -> Register
-        ensures value { listed result ≡ [] }
+        ensures value { result ≡ [] }
     {
         let row = Row {
             offset: 0,
@@ -33,121 +57,94 @@ impl Register {
         }
     }
 
+    // The rows taken. At most 256 are, which is an invariant of the type; a clause says it to callers.
+    fn listed(&self) -> &[Row]
+        ensures value { result.now ≡ self.now }
+        ensures few { many self.now ≤ capacity }
+    {
+        &self.rows[..self.taken]
+    }
+
     // Whether `count` places more would be too many.
     pub fn lacks(&self, count: usize) -> bool
-        ensures value { result ≡ lacking (listed self.now) count }
+        ensures value { result ≡ lacking self.now count }
     {
         count > 256 - self.taken
     }
 
     // The row of that number, if it is open.
     pub fn open_at(&self, number: usize) -> Option<Row>
-        ensures value { result ≡ open_at (listed self.now) number }
+        ensures value { result ≡ open_at self.now number }
     {
-        if number >= self.taken {
-            return None;
-        }
-        let row = self.rows[number];
-        match row.state {
-            State::Open => Some(row),
-            State::Filled | State::Spoiled => None,
-        }
+        self.listed()
+            .get(number)
+            .copied()
+            .filter(|row| row.state == State::Open)
     }
 
     // What the event makes of the row of that number; if there is none, nothing.
+    #[tactic(auto, using(crate::proofs::Listed::front))]
     pub fn mark(&mut self, number: usize, event: Event)
-        ensures after { listed self.new ≡ struck event (listed self.old) number }
-    {
-        self.strike(number, event);
-    }
-
-    // The same, in the array of rows.
-    fn strike(&mut self, number: usize, event: Event)
-        ensures after { listed self.new ≡ struck event (listed self.old) number }
+        ensures after { self.new ≡ struck event self.old number }
     {
         if number < self.taken {
-            let row = &mut self.rows[number];
-            row.step(event);
+            self.rows[number].step(event);
         }
     }
 
-    // Opens `count` places of `length` bytes each, one right after the other from `offset` on, and
-    // answers the number of the first; nothing if that is too many, or past the largest usize.
-    pub fn add(&mut self, offset: usize, length: usize, count: usize) -> usize
-        ensures value { result ≡ many (listed self.old) }
-        ensures after { listed self.new ≡ added (listed self.old) offset «length» count }
+    // Opens the places, and answers the number of the first; nothing if that is too many, or past the
+    // largest usize.
+    pub fn add(&mut self, places: Places) -> usize
+        ensures value { result ≡ many self.old }
+        ensures after { self.new ≡ added self.old places.offset places.length places.count }
     {
         let first = self.taken;
-        if !self.lacks(count) && ends(offset, length, count) {
-            self.add_all(offset, length, count);
+        if !self.lacks(places.count) && places.fit() {
+            self.add_all(places);
         }
         first
     }
 
     // The same, where there is room.
-    fn add_all(&mut self, offset: usize, length: usize, count: usize)
-        requires room { many (listed self.old) + count ≤ 256 }
-        requires ends { offset + count * «length» ≤ largest }
-        ensures after { listed self.new ≡ listed self.old ++ in_a_row offset «length» count }
+    #[tactic(auto, using(crate::proofs::Listed::joined))]
+    fn add_all(&mut self, places: Places)
+        requires room { many self.old + places.count ≤ capacity }
+        requires fit { places.offset + places.count * places.length ≤ largest }
+        ensures after { self.new ≡ self.old ++ in_a_row places.offset places.length places.count }
     {
-        let mut at = offset;
-        for i in 0..count {
-            self.add_one(at, length);
-            at += length;
+        // The index is a place's own: where its bytes begin follows from it, and no slice is indexed by it.
+        for i in 0..places.count {
+            self.push(places.row(i));
         }
     }
 
-    // One more, where there is room.
-    fn add_one(&mut self, offset: usize, length: usize)
-        requires room { many (listed self.old) + 1 ≤ 256 }
-        ensures after { listed self.new ≡ listed self.old ++ in_a_row offset «length» 1 }
+    // One row more, where there is room.
+    fn push(&mut self, row: Row)
+        requires room { many self.old < capacity }
+        ensures after { self.new ≡ self.old ++ row ∷ [] }
     {
-        let number = self.taken;
-        self.rows[number] = Row {
-            offset,
-            length,
-            state: State::Open,
-        };
-        self.taken = number + 1;
+        self.rows[self.taken] = row;
+        self.taken += 1;
     }
 
     // How many places were taken, and how many are filled, spoiled and open.
     pub fn tally(&self) -> Tally
-        ensures value { result ≡ tallied (listed self.now) }
+        ensures value { result ≡ tallied self.now }
+        ensures few { many self.now ≤ capacity }
     {
-        self.count()
-    }
-
-    // The same, row by row.
-    fn count(&self) -> Tally
-        ensures value { result ≡ tallied (listed self.now) }
-    {
-        let mut filled = 0;
-        let mut spoiled = 0;
-        let mut open = 0;
-        for i in 0..self.taken {
-            let state = self.rows[i].state;
-            match state {
-                State::Open => open += 1,
-                State::Filled => filled += 1,
-                State::Spoiled => spoiled += 1,
-            }
-        }
+        let rows = self.listed();
         Tally {
-            taken: self.taken,
-            filled,
-            spoiled,
-            open,
+            taken: rows.len(),
+            filled: count(rows, State::Filled),
+            spoiled: count(rows, State::Spoiled),
+            open: count(rows, State::Open),
         }
     }
 }
 
-// Whether `count` places of `length` bytes from `offset` on end within the largest usize.
-fn ends(offset: usize, length: usize, count: usize) -> bool
-    ensures value { result ≡ nat_le (offset + count * «length») largest }
+// How many of the rows are in that state.
+fn count(rows: &[Row], state: State) -> usize
+    ensures value { result ≡ state_count (counted state) rows.now }
 {
-    match count.checked_mul(length) {
-        Some(size) => offset <= usize::MAX - size,
-        None => false,
-    }
+    rows.iter().filter(|row| row.state == state).count()
 }

@@ -1,7 +1,7 @@
 ghost use Rattle.std.specs.Prelude.{◌≡◌, []};
 ghost use Rattle.runs.specs.Calls.{item, value, bytes, zeros, adds};
 ghost use Rattle.runs.specs.Law.{Shown};
-ghost use Rattle.writer.specs.Holding.{held, done};
+ghost use Rattle.writer.specs.Holding.{done};
 
 use super::Writer;
 use context::{WriteContext, write};
@@ -12,8 +12,8 @@ use register::Register;
 impl<C: WriteContext> Writer<C> {
     // A writer on a context, with no place taken. What the context has written already stays.
     pub fn new(context: C) -> Writer<C>
-        ensures context { (held result).context ≡ context }
-        ensures rows { (held result).rows ≡ [] }
+        ensures context { result.context ≡ context }
+        ensures rows { result.rows ≡ [] }
     {
         Writer {
             context,
@@ -23,16 +23,17 @@ impl<C: WriteContext> Writer<C> {
 
     // Takes the writer apart, and gives its context back.
     pub fn into_inner(self) -> C
-        ensures value { result ≡ (held self).context }
+        ensures value { result ≡ self.context }
     {
         let Writer { context, register } = self;
         drop(register);
         context
     }
 
-    // Joins on the bytes of a kind's value.
+    // Joins on the bytes of a kind's value. (The clause `code` here and at the two fills speaks of the type of the
+    // value alone, and holds of every type: it has no value to be kept in.)
     pub fn write<K: Kind>(&mut self, v: K::HostType) -> Result<(), Refusal>
-        ensures shown { Shown C.WriteContext.means (held self.old) (adds (value (item K.Kind K.HostType.row.coded v))) (done result) (held self.new) }
+        ensures shown { Shown C.WriteContext.means self.old (adds (value (item K.Kind K.HostType.row.coded v))) (done result) self.new }
         ensures code { (u w : K.HostType) → K.HostType.row.coded.code u ≡ K.HostType.row.coded.code w → u ≡ w }
     {
         write::<K, C>(&mut self.context, v)
@@ -40,14 +41,14 @@ impl<C: WriteContext> Writer<C> {
 
     // Joins on bytes.
     pub fn write_bytes(&mut self, data: &[u8]) -> Result<(), Refusal>
-        ensures shown { Shown C.WriteContext.means (held self.old) (adds (bytes «data».now)) (done result) (held self.new) }
+        ensures shown { Shown C.WriteContext.means self.old (adds (bytes «data».now)) (done result) self.new }
     {
         self.context.write_bytes(data)
     }
 
     // Joins on so many zeros.
     pub fn write_zeros(&mut self, count: usize) -> Result<(), Refusal>
-        ensures shown { Shown C.WriteContext.means (held self.old) (adds (zeros count)) (done result) (held self.new) }
+        ensures shown { Shown C.WriteContext.means self.old (adds (zeros count)) (done result) self.new }
     {
         self.context.write_zeros(count)
     }

@@ -1,17 +1,20 @@
-ghost use Rattle.std.specs.Prelude.{◌≡◌, ◌+◌, [], ◌∷◌};
-ghost use Rattle.refusals.specs.Answers.{told, judged};
+ghost use Rattle.std.specs.Prelude.{◌≡◌, ◌+◌, not, [], ◌∷◌, MatchResult};
+ghost use Rattle.refusals.specs.declared.refusal.Refusal.TheVariants.{NoPlace};
+ghost use Rattle.refusals.specs.Answers.{told, due, judged};
 ghost use Rattle.read.specs.Scopes.{view};
+ghost use Rattle.register.specs.declared.register.Event.TheVariants.{Fill, Refuse};
+ghost use Rattle.register.specs.Rows.{row, struck};
 ghost use Rattle.runs.specs.Calls.{item, token, fills, fills_dep, abandons};
 ghost use Rattle.runs.specs.Law.{Shown};
-ghost use Rattle.runs.specs.Steps.{target_dues};
-ghost use Rattle.writer.specs.Holding.{held, done, by_token, by_run};
+ghost use Rattle.runs.specs.Steps.{target_dues, open_of_length};
+ghost use Rattle.writer.specs.Holding.{done, by_token, by_run};
 
 use super::{Placeholder, Run, Writer};
 use context::{WriteContext, write_value_at};
 use kinds::Kind;
 use read::ReadScope;
 use refusals::Refusal;
-use register::Event;
+use register::{Event, Row};
 
 impl Placeholder {
     // The number of the place, for which the token is given up.
@@ -24,17 +27,17 @@ impl Placeholder {
 }
 
 impl Run {
-    // The number of the place of index `index`.
+    // The number of the place of index `index`. (It judges the index: no conversion.)
     fn number(self, index: usize) -> Result<usize, Refusal>
         ensures answer { told (λ n. n) result ≡ judged (target_dues (by_run self index)) (self.first + index) }
     {
         if index >= self.count {
             return Err(Refusal::BadIndex);
         }
-        match self.first.checked_add(index) {
-            Some(number) if number <= 255 => Ok(number),
-            _ => Err(Refusal::NoPlace),
-        }
+        self.first
+            .checked_add(index)
+            .filter(|number| *number <= 255)
+            .ok_or(Refusal::NoPlace)
     }
 }
 
@@ -45,7 +48,7 @@ impl<C: WriteContext> Writer<C> {
         placeholder: Placeholder,
         v: K::HostType,
     ) -> Result<(), Refusal>
-        ensures shown { Shown C.WriteContext.means (held self.old) (fills (by_token placeholder) (item K.Kind K.HostType.row.coded v)) (done result) (held self.new) }
+        ensures shown { Shown C.WriteContext.means self.old (fills (by_token placeholder) (item K.Kind K.HostType.row.coded v)) (done result) self.new }
         ensures code { (u w : K.HostType) → K.HostType.row.coded.code u ≡ K.HostType.row.coded.code w → u ≡ w }
     {
         self.fill::<K>(placeholder.spend(), v)
@@ -58,35 +61,19 @@ impl<C: WriteContext> Writer<C> {
         index: usize,
         v: K::HostType,
     ) -> Result<(), Refusal>
-        ensures shown { Shown C.WriteContext.means (held self.old) (fills (by_run run index) (item K.Kind K.HostType.row.coded v)) (done result) (held self.new) }
+        ensures shown { Shown C.WriteContext.means self.old (fills (by_run run index) (item K.Kind K.HostType.row.coded v)) (done result) self.new }
         ensures code { (u w : K.HostType) → K.HostType.row.coded.code u ≡ K.HostType.row.coded.code w → u ≡ w }
     {
-        match run.number(index) {
-            Ok(number) => self.fill::<K>(number, v),
-            Err(e) => Err(e),
-        }
+        self.fill::<K>(run.number(index)?, v)
     }
 
     // Fills the place of that number.
     fn fill<K: Kind>(&mut self, number: usize, v: K::HostType) -> Result<(), Refusal>
-        ensures shown { Shown C.WriteContext.means (held self.old) (fills (token number 0) (item K.Kind K.HostType.row.coded v)) (done result) (held self.new) }
+        ensures shown { Shown C.WriteContext.means self.old (fills (token number 0) (item K.Kind K.HostType.row.coded v)) (done result) self.new }
     {
-        let Some(row) = self.register.open_at(number) else {
-            return Err(Refusal::NoPlace);
-        };
-        if row.length != K::size() {
-            return Err(Refusal::NoPlace);
-        }
-        match write_value_at::<K, C>(&mut self.context, row.offset, v) {
-            Ok(()) => {
-                self.register.mark(number, Event::Fill);
-                Ok(())
-            }
-            Err(e) => {
-                self.register.mark(number, Event::Refuse);
-                Err(e)
-            }
-        }
+        let row = self.open_row(number, K::size())?;
+        let answer = write_value_at::<K, C>(&mut self.context, row.offset, v);
+        self.settle(number, answer)
     }
 
     // Fills the place with a scope's bytes, which go to its start; zeros stay behind them.
@@ -95,57 +82,63 @@ impl<C: WriteContext> Writer<C> {
         placeholder: Placeholder,
         scope: ReadScope<'_>,
     ) -> Result<(), Refusal>
-        ensures shown { Shown C.WriteContext.means (held self.old) (fills_dep placeholder.number placeholder.length (view scope.entry).slice.bytes) (done result) (held self.new) }
+        ensures shown { Shown C.WriteContext.means self.old (fills_dep placeholder.number placeholder.length (view scope.entry).slice.bytes) (done result) self.new }
     {
         let Placeholder { number, length } = placeholder;
-        let Some(row) = self.register.open_at(number) else {
-            return Err(Refusal::NoPlace);
-        };
-        if row.length != length {
-            return Err(Refusal::NoPlace);
-        }
+        let row = self.open_row(number, length)?;
         let data = scope.data();
-        if data.len() > length {
-            self.register.mark(number, Event::Refuse);
-            return Err(Refusal::PlaceholderMismatch);
-        }
-        match self.context.write_at(row.offset, data) {
-            Ok(()) => {
-                self.register.mark(number, Event::Fill);
-                Ok(())
-            }
-            Err(e) => {
-                self.register.mark(number, Event::Refuse);
-                Err(e)
-            }
-        }
+        let answer = if data.len() > length {
+            Err(Refusal::PlaceholderMismatch)
+        } else {
+            self.context.write_at(row.offset, data)
+        };
+        self.settle(number, answer)
     }
 
     // Gives the place up.
     pub fn abandon(&mut self, placeholder: Placeholder) -> Result<(), Refusal>
-        ensures shown { Shown C.WriteContext.means (held self.old) (abandons (by_token placeholder)) (done result) (held self.new) }
+        ensures shown { Shown C.WriteContext.means self.old (abandons (by_token placeholder)) (done result) self.new }
     {
         self.spoil(placeholder.spend())
     }
 
     // Gives the place of that index in a run up.
     pub fn abandon_item(&mut self, run: Run, index: usize) -> Result<(), Refusal>
-        ensures shown { Shown C.WriteContext.means (held self.old) (abandons (by_run run index)) (done result) (held self.new) }
+        ensures shown { Shown C.WriteContext.means self.old (abandons (by_run run index)) (done result) self.new }
     {
-        match run.number(index) {
-            Ok(number) => self.spoil(number),
-            Err(e) => Err(e),
-        }
+        self.spoil(run.number(index)?)
     }
 
     // Gives the place of that number up.
     fn spoil(&mut self, number: usize) -> Result<(), Refusal>
-        ensures shown { Shown C.WriteContext.means (held self.old) (abandons (token number 0)) (done result) (held self.new) }
+        ensures shown { Shown C.WriteContext.means self.old (abandons (token number 0)) (done result) self.new }
     {
-        let Some(_) = self.register.open_at(number) else {
-            return Err(Refusal::NoPlace);
-        };
+        self.register.open_at(number).ok_or(Refusal::NoPlace)?;
         self.register.mark(number, Event::Abandon);
         Ok(())
+    }
+
+    // The row of the place of that number, if it is open and that long.
+    fn open_row(&self, number: usize, length: usize) -> Result<Row, Refusal>
+        ensures answer { told (λ r. r) result ≡ judged (due NoPlace (not (open_of_length self.now.rows number «length»)) ∷ []) (row self.now.rows number) }
+    {
+        self.register
+            .open_at(number)
+            .filter(|row| row.length == length)
+            .ok_or(Refusal::NoPlace)
+    }
+
+    // Marks the place as a fill so answered leaves it, filled or spoiled, and hands the answer on.
+    fn settle(&mut self, number: usize, answer: Result<(), Refusal>) -> Result<(), Refusal>
+        ensures same { result ≡ answer }
+        ensures context { self.new.context ≡ self.old.context }
+        ensures rows { MatchResult answer (λ _. self.new.rows ≡ struck Fill self.old.rows number) (λ _. self.new.rows ≡ struck Refuse self.old.rows number) }
+    {
+        let event = match answer {
+            Ok(()) => Event::Fill,
+            Err(_) => Event::Refuse,
+        };
+        self.register.mark(number, event);
+        answer
     }
 }

@@ -1,11 +1,7 @@
 -- What was written behind the end grew each string by it.
-use Rattle.std.proofs.Common.{length, refl}
-use Rattle.buffer.specs.Buffers.{buffer}
-use Rattle.buffer.proofs.Memory.{Grown-appended, behind_end}
+use Rattle.std.proofs.Common.{rules}
+use Rattle.buffer.proofs.Memory.{Grown-appended}
 use Rattle.buffer.proofs.WriteBuffer.append.Goals as goal
 
-pub returns : goal.returns
-returns c =
-    let put = c.args.data.now in
-    let written = behind_end (buffer c.args.self.now) (buffer c.lay.new.self) put c.bytes_written-from.result (length put) c.bytes_written-from.ensures.value refl c.lay.ensures.after in
-    record { memory = written; grown = Grown-appended c.args.self.now _ put c.requires.space written }
+pub returns-clause-grown : goal.returns-clause-grown
+returns-clause-grown c = Grown-appended c.args.self.now _ c.args.data.now c.requires.space (search rules)

@@ -9,8 +9,8 @@ use Rattle.writer.proofs.writer.Writer.fill.Goals as goal
 item_kept : {K V : Type 0} (k : Ghosts K V) (c : Coded V) → Lawful k.width k.fitting k.bytes k.value → (v : V) → Kept (item k c v)
 item_kept k c law v = record { sized = law.sized v; back = λ h. ap c.code (law.back v h) }
 
-pub returns-in-Ok : goal.returns-in-Ok
-returns-in-Ok g c = let kept = item_kept g.K.Kind g.row.K-HostType.coded g.met.K.Kind.lawful c.args.v in search rules
+pub returns-in_err-row : goal.returns-in_err-row
+returns-in_err-row g c = let kept = item_kept g.K.Kind g.row.K-HostType.coded g.met.K.Kind.lawful c.args.v in search rules
 
-pub returns-in-Err : goal.returns-in-Err
-returns-in-Err g c = let kept = item_kept g.K.Kind g.row.K-HostType.coded g.met.K.Kind.lawful c.args.v in search rules
+pub returns : goal.returns
+returns g c = let kept = item_kept g.K.Kind g.row.K-HostType.coded g.met.K.Kind.lawful c.args.v in search rules
