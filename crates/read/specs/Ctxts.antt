@@ -34,7 +34,7 @@ next c n = take n (drop c.position c.scope.slice.bytes)
 
 -- The same bytes as a slice.
 abbrev pub next_slice : Ctxt → ℕ → Slice
-next_slice c n = part c.scope.slice c.position n
+next_slice ctxt n = part ctxt.scope.slice ctxt.position n
 
 -- The same bytes as a scope. (A sound context's position never takes the base past the reach.)
 abbrev pub next_scope : Ctxt → ℕ → Scope

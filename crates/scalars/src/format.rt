@@ -1,4 +1,4 @@
-ghost use Rattle.std.specs.Prelude.{◌≡◌, ℕ, ℤ, ◌^◌, ◌<◌, ◌≤◌, Bool, cond, Some, None};
+ghost use Rattle.std.specs.Prelude.{◌≡◌, ℕ, ℤ, ◌^◌, ◌%◌, ◌≤◌, Bool, cond, Some, None};
 ghost use Rattle.opentype.specs.Numbers.{big_endian, number_of};
 ghost use Rattle.kinds.specs.Laws.{Lawful};
 
@@ -30,9 +30,9 @@ pub trait Format {
     fn to_bits(v: Self::HostType) -> Option<u64>
         ensures value { result ≡ cond (fitting v) (Some (bits v)) None };
 
-    // The value of bits that a value can have; of others, some value.
+    // The value of the number's low bits, as many as a value has.
     fn from_bits(n: u64) -> Self::HostType
-        ensures value { n < 256 ^ SIZE → result ≡ value n };
+        ensures value { result ≡ value (n % 256 ^ SIZE) };
 
     // A value takes from 1 to 8 bytes.
     ghost few: { (1 ≤ SIZE) × (SIZE ≤ 8) };
