@@ -3,7 +3,8 @@ use Rattle.std.proofs.Common.{◌≡◌, ℕ, ◌+◌, ◌-◌, ◌≤◌, List,
 use lib.Seq.{take-append-add}
 use Rattle.std.proofs.lemmas.List.{take-take, drop-take, take_at, drop_at}
 use Rattle.context.specs.Contexts.{overlaid, Grown, Overlaid}
-use Rattle.buffer.specs.Buffers.{Buffer, end, room, front, laid, appended, Kept, drop_further, buffer_means}
+use Rattle.buffer.specs.declared.WriteBuffer.{WriteBuffer}
+use Rattle.buffer.specs.Buffers.{Buffer, buffer, end, room, front, laid, appended, Kept, drop_further, buffer_means}
 
 pub length-overlaid : (s : List ℕ) (p : ℕ) (put : List ℕ) → p + length put ≤ length s → length (overlaid s p put) ≡ length s
 length-overlaid s p put h = simp (length-append, length-take, length-drop) (omega arith)
@@ -72,16 +73,17 @@ module _ (b : Buffer) (p : ℕ) (put : List ℕ) (fit : p + length put ≤ end b
   room-laid : room (laid b p put) ≡ room b
   room-laid = let l = laid_long in omega arith
 
-pub Grown-appended : (c d : Buffer) (put : List ℕ) → length put ≤ room c → d ≡ appended c put → Grown buffer_means c put d
+-- the same of buffers of the program
+pub Grown-appended : (c d : WriteBuffer) (put : List ℕ) → length put ≤ room (buffer c) → buffer d ≡ appended (buffer c) put → Grown buffer_means c put d
 Grown-appended c d put fit e = record {
-  each = λ s h. ap (λ (t : List ℕ). t ++ put) h ∙ sym (front-appended c put fit) ∙ sym (ap front e);
-  less = ap (λ (b : Buffer). room b + length put) e ∙ room-appended c put fit;
-  kept = subst (Kept c) (sym e) (Kept-appended c put fit);
+  each = λ s h. ap (λ (t : List ℕ). t ++ put) h ∙ sym (front-appended (buffer c) put fit) ∙ sym (ap front e);
+  less = ap (λ (b : Buffer). room b + length put) e ∙ room-appended (buffer c) put fit;
+  kept = subst (Kept (buffer c)) (sym e) (Kept-appended (buffer c) put fit);
 }
 
-pub Overlaid-laid : (c d : Buffer) (p : ℕ) (put : List ℕ) → p + length put ≤ end c → d ≡ laid c p put → Overlaid buffer_means c p put d
+pub Overlaid-laid : (c d : WriteBuffer) (p : ℕ) (put : List ℕ) → p + length put ≤ end (buffer c) → buffer d ≡ laid (buffer c) p put → Overlaid buffer_means c p put d
 Overlaid-laid c d p put fit e = record {
-  each = λ s h. ap (λ (t : List ℕ). overlaid t p put) h ∙ sym (front-laid c p put fit) ∙ sym (ap front e);
-  less = ap room e ∙ room-laid c p put fit;
-  kept = subst (Kept c) (sym e) (Kept-laid c p put fit);
+  each = λ s h. ap (λ (t : List ℕ). overlaid t p put) h ∙ sym (front-laid (buffer c) p put fit) ∙ sym (ap front e);
+  less = ap room e ∙ room-laid (buffer c) p put fit;
+  kept = subst (Kept (buffer c)) (sym e) (Kept-laid (buffer c) p put fit);
 }

@@ -3,12 +3,17 @@ use Rattle.std.specs.Prelude.{◌≡◌, ℕ, ◌+◌, ◌-◌, ◌≤◌, min, 
 use Rattle.std.proofs.Common.{sym, ap, ◌∙◌, arith, length-take, drop-drop}
 use Rattle.std.specs.Borrow.{GName}
 use Rattle.context.specs.Contexts.{Context, overlaid}
+use Rattle.buffer.specs.declared.WriteBuffer.{WriteBuffer}
 
 -- A buffer as a value: the name of the reference to its memory, by which the lender knows its own, what the memory holds, and a count of bytes written.
 pub record Buffer : Type 0 where
   pub memory : GName
   pub holds : List ℕ
   pub count : ℕ
+
+-- The value of a buffer of the program.
+abbrev pub buffer : WriteBuffer → Buffer
+buffer b = record { memory = b.memory.ghost_name; holds = b.memory.now; count = b.count }
 
 -- Where the written bytes end. (No buffer that a call makes has a count past its memory; of a made-up one, all is written.)
 abbrev pub end : Buffer → ℕ
@@ -69,14 +74,14 @@ pub front_long : (b : Buffer) (s : List ℕ) → s ≡ front b → length s ≡ 
 front_long b s e = ap length e ∙ simp length-take (omega arith)
 
 -- A buffer stands for its written bytes alone, has the rest of its memory as space, and keeps that rest.
-abbrev pub buffer_means : Context Buffer
+abbrev pub buffer_means : Context WriteBuffer
 buffer_means = record {
-  stands = λ b s. s ≡ front b;
-  written = λ b. end b;
-  space = λ b. room b;
-  keeps = λ a b. Kept a b;
-  some = λ b. (front b, refl);
-  long = λ b. front_long b;
-  unmoved = λ b. kept_unmoved b;
-  onward = λ a b c. kept_onward a b c;
+  stands = λ b s. s ≡ front (buffer b);
+  written = λ b. end (buffer b);
+  space = λ b. room (buffer b);
+  keeps = λ a b. Kept (buffer a) (buffer b);
+  some = λ b. (front (buffer b), refl);
+  long = λ b. front_long (buffer b);
+  unmoved = λ b. kept_unmoved (buffer b);
+  onward = λ a b c. kept_onward (buffer a) (buffer b) (buffer c);
 }

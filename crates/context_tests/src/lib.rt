@@ -7,4 +7,6 @@ mod buffers;
 #[cfg(test)]
 mod counters;
 #[cfg(test)]
+mod lent;
+#[cfg(test)]
 mod values;
