@@ -1,11 +1,12 @@
 -- How many rows are in a state: as a count of those that pass a test, and of rows joined, changed and taken together.
-use Rattle.std.proofs.Common.{◌≡◌, ℕ, zero, suc, ◌+◌, ◌<◌, ◌==◌, cond, List, [], ◌∷◌, ◌++◌, length, set, refl, ◌∙◌, arith}
+use Rattle.std.proofs.Common.{◌≡◌, ℕ, zero, suc, ◌+◌, ◌<◌, ◌==◌, cond, List, [], ◌∷◌, ◌++◌, length, get_or, take, set, refl, ap, ◌∙◌, arith}
 use Rattle.std.specs.List.{count_by}
+use Rattle.std.proofs.lemmas.List.{length-append, take_more}
 use Rattle.std.proofs.lemmas.List.Sums.{sum_by-cons}
 use Rattle.register.specs.declared.register.State.{State}
 use Rattle.register.specs.declared.register.State.TheVariants.{Open, Filled, Spoiled}
 use Rattle.register.specs.declared.register.Row.{Row}
-use Rattle.register.specs.Rows.{row, is_open, is_filled, is_spoiled, state_count, counted}
+use Rattle.register.specs.Rows.{opened, row, tallied, one_more, is_open, is_filled, is_spoiled, state_count, counted}
 
 -- the rows that pass the test of a state are as many as that state counts
 pub count_by-counted : (s : State) (rs : List Row) → count_by (λ r. counted s r.state == 1) rs ≡ state_count (counted s) rs
@@ -47,3 +48,11 @@ state_count_all (r ∷ rs) = let h = state_count_all rs in let o = one r.state i
     one Open = refl
     one Filled = refl
     one Spoiled = refl
+
+-- the rows up to one more are tallied with it
+pub tallied_more : (rs : List Row) (i : ℕ) → i < length rs → tallied (take (i + 1) rs) ≡ one_more (tallied (take i rs)) (get_or rs i (opened 0 0)).state
+tallied_more rs i h =
+    let r = get_or rs i (opened 0 0) in
+    let one : length (take i rs ++ r ∷ []) ≡ length (take i rs) + 1 = simp length-append refl in
+    ap tallied (take_more rs i (opened 0 0) h)
+    ∙ (λ j. record { taken = one j; filled = state_count_push is_filled (take i rs) r j; spoiled = state_count_push is_spoiled (take i rs) r j; «open» = state_count_push is_open (take i rs) r j })

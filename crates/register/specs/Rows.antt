@@ -107,3 +107,7 @@ state_count f (r ∷ rs) = f r.state + state_count f rs
 -- How many rows there are, and how many of them are filled, spoiled and open.
 abbrev pub tallied : List Row → Tally
 tallied rs = record { taken = length rs; filled = state_count is_filled rs; spoiled = state_count is_spoiled rs; «open» = state_count is_open rs }
+
+-- The tally of one row more, in that state.
+abbrev pub one_more : Tally → State → Tally
+one_more t s = record { taken = t.taken + 1; filled = t.filled + is_filled s; spoiled = t.spoiled + is_spoiled s; «open» = t.«open» + is_open s }

@@ -30,9 +30,13 @@ pub struct Writer<C: WriteContext> {
 
 // A writer is seen as the state that steps and runs speak of: its context, and the rows of the places taken.
 impl<C: WriteContext> Model for Writer<C> {
+    ghost use Rattle.std.specs.Prelude.{◌≤◌, length};
+    ghost use Rattle.register.specs.Rows.{capacity};
     ghost use Rattle.runs.specs.Steps.{Held};
 
     ghost Value = { Held C };
 
     ghost view = { λ w. record { context = w.context; rows = w.register } };
+
+    ghost invariant = { λ w. length w.register ≤ capacity };
 }

@@ -1,6 +1,6 @@
 ghost use Rattle.std.specs.Prelude.{◌≡◌, ◌+◌, ◌*◌, ◌<◌, ◌≤◌, [], ◌∷◌, ◌++◌, length as many, nat_le};
 ghost use Rattle.opentype.specs.Alignment.{largest};
-ghost use Rattle.register.specs.Rows.{capacity, opened, stepped, lacking, open_at, struck, in_a_row, added, tallied, state_count, counted};
+ghost use Rattle.register.specs.Rows.{capacity, opened, stepped, lacking, open_at, struck, in_a_row, added, tallied, one_more};
 
 use super::{Event, Places, Register, Row, State, Tally};
 
@@ -68,6 +68,7 @@ impl Register {
     // Whether `count` places more would be too many.
     pub fn lacks(&self, count: usize) -> bool
         ensures value { result ≡ lacking self.now count }
+        ensures few { many self.now ≤ capacity }
     {
         count > 256 - self.taken
     }
@@ -75,6 +76,7 @@ impl Register {
     // The row of that number, if it is open.
     pub fn open_at(&self, number: usize) -> Option<Row>
         ensures value { result ≡ open_at self.now number }
+        ensures few { many self.now ≤ capacity }
     {
         self.listed()
             .get(number)
@@ -86,6 +88,7 @@ impl Register {
     #[tactic(auto, using(crate::proofs::Listed::front))]
     pub fn mark(&mut self, number: usize, event: Event)
         ensures after { self.new ≡ struck event self.old number }
+        ensures few { (many self.old ≤ capacity) × (many self.new ≤ capacity) }
     {
         if number < self.taken {
             self.rows[number].step(event);
@@ -97,6 +100,7 @@ impl Register {
     pub fn add(&mut self, places: Places) -> usize
         ensures value { result ≡ many self.old }
         ensures after { self.new ≡ added self.old places.offset places.length places.count }
+        ensures few { (many self.old ≤ capacity) × (many self.new ≤ capacity) }
     {
         let first = self.taken;
         if !self.lacks(places.count) && places.fit() {
@@ -111,6 +115,7 @@ impl Register {
         requires room { many self.old + places.count ≤ capacity }
         requires fit { places.offset + places.count * places.length ≤ largest }
         ensures after { self.new ≡ self.old ++ in_a_row places.offset places.length places.count }
+        ensures few { many self.new ≤ capacity }
     {
         // The index is a place's own: where its bytes begin follows from it, and no slice is indexed by it.
         for i in 0..places.count {
@@ -132,19 +137,52 @@ impl Register {
         ensures value { result ≡ tallied self.now }
         ensures few { many self.now ≤ capacity }
     {
-        let rows = self.listed();
-        Tally {
-            taken: rows.len(),
-            filled: count(rows, State::Filled),
-            spoiled: count(rows, State::Spoiled),
-            open: count(rows, State::Open),
+        count(self.listed())
+    }
+}
+
+impl Tally {
+    // One place more, in that state.
+    fn with(self, state: State) -> Tally
+        requires few { self.taken < capacity }
+        requires balance { self.taken ≡ self.filled + (self.spoiled + self.«open») }
+        ensures value { result ≡ one_more self state }
+    {
+        let taken = self.taken + 1;
+        match state {
+            State::Open => Tally {
+                taken,
+                open: self.open + 1,
+                ..self
+            },
+            State::Filled => Tally {
+                taken,
+                filled: self.filled + 1,
+                ..self
+            },
+            State::Spoiled => Tally {
+                taken,
+                spoiled: self.spoiled + 1,
+                ..self
+            },
         }
     }
 }
 
-// How many of the rows are in that state.
-fn count(rows: &[Row], state: State) -> usize
-    ensures value { result ≡ state_count (counted state) rows.now }
+// The tally of the rows, in one pass: three, by `filter` and `count`, took more than twice as long.
+#[tactic(auto, using(crate::proofs::Counting::tallied_more, crate::proofs::Counting::state_count_all))]
+fn count(rows: &[Row]) -> Tally
+    requires few { many rows.now ≤ capacity }
+    ensures value { result ≡ tallied rows.now }
 {
-    rows.iter().filter(|row| row.state == state).count()
+    let mut tally = Tally {
+        taken: 0,
+        filled: 0,
+        spoiled: 0,
+        open: 0,
+    };
+    for row in rows {
+        tally = tally.with(row.state);
+    }
+    tally
 }

@@ -1,7 +1,8 @@
-ghost use Rattle.std.specs.Prelude.{◌≡◌, []};
+ghost use Rattle.std.specs.Prelude.{◌≡◌, ◌≤◌, [], length as many};
+ghost use Rattle.register.specs.Rows.{capacity};
 ghost use Rattle.runs.specs.Calls.{item, value, bytes, zeros, adds};
 ghost use Rattle.runs.specs.Law.{Shown};
-ghost use Rattle.writer.specs.Holding.{done};
+ghost use Rattle.writer.specs.Holding.{Few, done};
 
 use super::Writer;
 use context::{WriteContext, write};
@@ -24,6 +25,7 @@ impl<C: WriteContext> Writer<C> {
     // Takes the writer apart, and gives its context back.
     pub fn into_inner(self) -> C
         ensures value { result ≡ self.context }
+        ensures few { many self.rows ≤ capacity }
     {
         let Writer { context, register } = self;
         drop(register);
@@ -35,6 +37,7 @@ impl<C: WriteContext> Writer<C> {
     pub fn write<K: Kind>(&mut self, v: K::HostType) -> Result<(), Refusal>
         ensures shown { Shown C.WriteContext.means self.old (adds (value (item K.Kind K.HostType.row.coded v))) (done result) self.new }
         ensures code { (u w : K.HostType) → K.HostType.row.coded.code u ≡ K.HostType.row.coded.code w → u ≡ w }
+        ensures few { Few self.old self.new }
     {
         write::<K, C>(&mut self.context, v)
     }
@@ -42,6 +45,7 @@ impl<C: WriteContext> Writer<C> {
     // Joins on bytes.
     pub fn write_bytes(&mut self, data: &[u8]) -> Result<(), Refusal>
         ensures shown { Shown C.WriteContext.means self.old (adds (bytes «data».now)) (done result) self.new }
+        ensures few { Few self.old self.new }
     {
         self.context.write_bytes(data)
     }
@@ -49,6 +53,7 @@ impl<C: WriteContext> Writer<C> {
     // Joins on so many zeros.
     pub fn write_zeros(&mut self, count: usize) -> Result<(), Refusal>
         ensures shown { Shown C.WriteContext.means self.old (adds (zeros count)) (done result) self.new }
+        ensures few { Few self.old self.new }
     {
         self.context.write_zeros(count)
     }

@@ -7,7 +7,7 @@ ghost use Rattle.register.specs.Rows.{row, struck};
 ghost use Rattle.runs.specs.Calls.{item, token, fills, fills_dep, abandons};
 ghost use Rattle.runs.specs.Law.{Shown};
 ghost use Rattle.runs.specs.Steps.{target_dues, open_of_length};
-ghost use Rattle.writer.specs.Holding.{done, by_token, by_run};
+ghost use Rattle.writer.specs.Holding.{Few, done, by_token, by_run};
 
 use super::{Placeholder, Run, Writer};
 use context::{WriteContext, write_value_at};
@@ -50,6 +50,7 @@ impl<C: WriteContext> Writer<C> {
     ) -> Result<(), Refusal>
         ensures shown { Shown C.WriteContext.means self.old (fills (by_token placeholder) (item K.Kind K.HostType.row.coded v)) (done result) self.new }
         ensures code { (u w : K.HostType) → K.HostType.row.coded.code u ≡ K.HostType.row.coded.code w → u ≡ w }
+        ensures few { Few self.old self.new }
     {
         self.fill::<K>(placeholder.spend(), v)
     }
@@ -63,13 +64,17 @@ impl<C: WriteContext> Writer<C> {
     ) -> Result<(), Refusal>
         ensures shown { Shown C.WriteContext.means self.old (fills (by_run run index) (item K.Kind K.HostType.row.coded v)) (done result) self.new }
         ensures code { (u w : K.HostType) → K.HostType.row.coded.code u ≡ K.HostType.row.coded.code w → u ≡ w }
+        ensures few { Few self.old self.new }
     {
+        // At the register the check learns the writer's invariant, which holds on a refusal of the index too.
+        let _ = &self.register;
         self.fill::<K>(run.number(index)?, v)
     }
 
     // Fills the place of that number.
     fn fill<K: Kind>(&mut self, number: usize, v: K::HostType) -> Result<(), Refusal>
         ensures shown { Shown C.WriteContext.means self.old (fills (token number 0) (item K.Kind K.HostType.row.coded v)) (done result) self.new }
+        ensures few { Few self.old self.new }
     {
         let row = self.open_row(number, K::size())?;
         let answer = write_value_at::<K, C>(&mut self.context, row.offset, v);
@@ -83,6 +88,7 @@ impl<C: WriteContext> Writer<C> {
         scope: ReadScope<'_>,
     ) -> Result<(), Refusal>
         ensures shown { Shown C.WriteContext.means self.old (fills_dep placeholder.number placeholder.length (view scope.entry).slice.bytes) (done result) self.new }
+        ensures few { Few self.old self.new }
     {
         let Placeholder { number, length } = placeholder;
         let row = self.open_row(number, length)?;
@@ -98,6 +104,7 @@ impl<C: WriteContext> Writer<C> {
     // Gives the place up.
     pub fn abandon(&mut self, placeholder: Placeholder) -> Result<(), Refusal>
         ensures shown { Shown C.WriteContext.means self.old (abandons (by_token placeholder)) (done result) self.new }
+        ensures few { Few self.old self.new }
     {
         self.spoil(placeholder.spend())
     }
@@ -105,13 +112,16 @@ impl<C: WriteContext> Writer<C> {
     // Gives the place of that index in a run up.
     pub fn abandon_item(&mut self, run: Run, index: usize) -> Result<(), Refusal>
         ensures shown { Shown C.WriteContext.means self.old (abandons (by_run run index)) (done result) self.new }
+        ensures few { Few self.old self.new }
     {
+        let _ = &self.register;
         self.spoil(run.number(index)?)
     }
 
     // Gives the place of that number up.
     fn spoil(&mut self, number: usize) -> Result<(), Refusal>
         ensures shown { Shown C.WriteContext.means self.old (abandons (token number 0)) (done result) self.new }
+        ensures few { Few self.old self.new }
     {
         self.register.open_at(number).ok_or(Refusal::NoPlace)?;
         self.register.mark(number, Event::Abandon);
@@ -133,6 +143,7 @@ impl<C: WriteContext> Writer<C> {
         ensures same { result ≡ answer }
         ensures context { self.new.context ≡ self.old.context }
         ensures rows { MatchResult answer (λ _. self.new.rows ≡ struck Fill self.old.rows number) (λ _. self.new.rows ≡ struck Refuse self.old.rows number) }
+        ensures few { Few self.old self.new }
     {
         let event = match answer {
             Ok(()) => Event::Fill,
