@@ -12,3 +12,7 @@ each_more f bs i h =
     ap (each f) (take_more bs i 0 h)
     ∙ each_append f (take i bs) (get_or bs i 0 ∷ [])
     ∙ ap (λ (t : List ℕ). each f (take i bs) ++ t) (append-nil (f (get_or bs i 0)))
+
+-- two characters pushed, one after the other
+pub two_pushes : (a b c : List ℕ) (x y : ℕ) → b ≡ a ++ (x ∷ []) → c ≡ b ++ (y ∷ []) → c ≡ a ++ (x ∷ y ∷ [])
+two_pushes a b c x y p q = q ∙ ap (λ (t : List ℕ). t ++ (y ∷ [])) p ∙ append_assoc a (x ∷ []) (y ∷ [])
