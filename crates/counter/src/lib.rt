@@ -37,7 +37,10 @@ impl WriteCounter {
         ensures answer { told (λ t. t) result ≡ judged (space_dues (largest - self.old) size) tt }
         ensures after { self.new ≡ after (space_dues (largest - self.old) size) self.old (self.old + size) }
     {
-        self.count = self.count.checked_add(size).ok_or(Refusal::NoSpace)?;
+        if size > self.space() {
+            return Err(Refusal::NoSpace);
+        }
+        self.count += size;
         Ok(())
     }
 }
@@ -60,7 +63,6 @@ impl WriteContext for WriteCounter {
         Ok(())
     }
 
-    // (The buffer's looks the same: each context answers its own count.)
     fn bytes_written(&self) -> usize {
         self.count
     }
