@@ -1,3 +1,4 @@
+ghost use Rattle.std.specs.Prelude.{◌≡◌, true, length};
 ghost use Rattle.opentype.specs.Numbers.{big_endian, number_of};
 
 use crate::format::Format;
@@ -52,16 +53,35 @@ impl<F: Format> Kind for BigEndian<F> {
     }
 
     unsafe fn read_unchecked(part: &[u8]) -> F::HostType {
-        // Eight bytes of fixed memory, since the device has no heap.
-        let mut bytes = [0; 8];
-        bytes[8 - F::SIZE..].copy_from_slice(part);
-        F::from_bits(u64::from_be_bytes(bytes))
+        value_of::<F>(part)
     }
 
     unsafe fn write_unchecked(v: F::HostType, out: &mut [u8]) {
-        if let Some(bits) = F::to_bits(v) {
-            out.copy_from_slice(&bits.to_be_bytes()[8 - F::SIZE..]);
-        }
+        put_value::<F>(v, out);
+    }
+}
+
+// The value of just the bytes that a number takes; apart from `read_unchecked`, so that a wrong one is refused at
+// its contract. So is the next.
+fn value_of<F: Format>(part: &[u8]) -> F::HostType
+    requires long { length part.now ≡ F.SIZE }
+    ensures value { result ≡ F.value (number_of part.now) }
+    ensures fit { F.fitting result ≡ true }
+{
+    // Eight bytes of fixed memory, since the device has no heap.
+    let mut bytes = [0; 8];
+    bytes[8 - F::SIZE..].copy_from_slice(part);
+    F::from_bits(u64::from_be_bytes(bytes))
+}
+
+// Writes a number that fits into just the bytes that it takes.
+fn put_value<F: Format>(v: F::HostType, out: &mut [u8])
+    requires fit { F.fitting v ≡ true }
+    requires long { length out.old ≡ F.SIZE }
+    ensures bytes { out.new ≡ big_endian F.SIZE (F.bits v) }
+{
+    if let Some(bits) = F::to_bits(v) {
+        out.copy_from_slice(&bits.to_be_bytes()[8 - F::SIZE..]);
     }
 }
 

@@ -2,7 +2,7 @@
 use Rattle.std.proofs.Common.{◌≡◌, ◌≤◌, Bool, cond, Some, None, ap, ap₂, ◌∙◌, sym, subst, ◌-◌, take, drop}
 use Rattle.opentype.specs.Numbers.{big_endian}
 use Rattle.opentype.proofs.BigEndian.{take-to_be_bytes}
-use Rattle.scalars.proofs.big_endian.BigEndianKind.write_unchecked.Goals as goal
+use Rattle.scalars.proofs.big_endian.put_value.Goals as goal
 
 pub returns-in-Some : goal.returns-in-Some
 returns-in-Some g c =

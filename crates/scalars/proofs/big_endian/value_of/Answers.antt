@@ -1,7 +1,7 @@
 -- What is read is the number that the bytes write, and bytes of the format's width write one that fits.
 use Rattle.std.proofs.Common.{◌≡◌, ◌^◌, ◌%◌, ◌≤◌, true, ap, mod-eq_of_lt, ◌∙◌, sym, subst}
 use Rattle.opentype.proofs.BigEndian.{Bytes-from_type, from_be_bytes-padded, number_of_lt}
-use Rattle.scalars.proofs.big_endian.BigEndianKind.read_unchecked.Goals as goal
+use Rattle.scalars.proofs.big_endian.value_of.Goals as goal
 
 pub returns : goal.returns
 returns g c =
