@@ -1,7 +1,7 @@
 -- The n bytes of a number and the number that bytes write undo one another, and they are the last of the
 -- eight bytes that the library makes of a number of 64 bits. Stated once, over the width.
-use Rattle.std.proofs.Common.{◌≡◌, ℕ, zero, suc, ◌+◌, ◌-◌, ◌*◌, ◌/◌, ◌%◌, ◌^◌, ◌<◌, ◌≤◌, List, [], ◌∷◌, ◌++◌, length, get_or, take, drop, replicate, sym, refl, ap, ◌∙◌, subst, ap₂, mod-lt, mul_assoc, div-lt_iff_lt-mul, add-mul, pow-suc, div-add-mod', zero-mul, mul-one, div-one, add-one, arith, length-drop, length-append, append-nil, drop_of_length-le, take_all}
-use native.Mathlib.Nat.{pow-succ', pow-zero, div-div-eq-div-mul}
+use Rattle.std.proofs.Common.{◌≡◌, ℕ, zero, suc, ◌+◌, ◌-◌, ◌*◌, ◌/◌, ◌%◌, ◌^◌, ◌<◌, ◌≤◌, List, [], ◌∷◌, ◌++◌, length, get_or, take, drop, replicate, sym, refl, ap, ◌∙◌, subst, ap₂, lt_of_lt_of_le, mod-lt, mul_assoc, div-lt_iff_lt-mul, add-mul, pow-suc, div-add-mod', zero-mul, mul-one, div-one, add-one, arith, length-drop, length-append, append-nil, drop_of_length-le, take_all}
+use native.Mathlib.Nat.{pow-le-pow_right, pow-succ', pow-zero, div-div-eq-div-mul}
 use mir.Val.{Fits}
 use borrow.Rule.Slice.PartMut.{put_mid}
 use lib.Arith.{digits_div, digits_mod}
@@ -84,6 +84,10 @@ pub big_endian-number_of : (n : ℕ) (bs : List ℕ) → length bs ≡ n → Byt
 big_endian-number_of n bs long small =
     let all : take n bs ≡ bs = take_all n bs (omega arith) in
     ap (λ (xs : List ℕ). big_endian n (number_of xs)) (sym all) ∙ big_endian_taken bs small n (omega arith) ∙ all
+
+-- a number of some width fits a wider one
+pub small_below : (v i k : ℕ) → v < 256 ^ i → i ≤ k → v < 256 ^ k
+small_below v i k h le = lt_of_lt_of_le h (pow-le-pow_right (omega arith) le)
 
 -- the library's bytes of a number are these
 pub bytes_high_first-big_endian : (n v : ℕ) → bytes_high_first n v ≡ big_endian n v

@@ -34,20 +34,20 @@ module _ (f : ℕ → Option Ordering) (n : ℕ) where
     turned_at : (o : Option Ordering) → f (middle l r) ≡ o → (j : ℕ) × (h.turns ≡ suc j) × (turned o (halves f j l (middle l r)) (Ok (middle l r)) (halves f j (middle l r + 1) r) l ≡ halves f n 0 n)
     turned_at o e = turn_by h.turns l r h.enough h.same lt o e
 
-    found : f (middle l r) ≡ Some Equal → Ok (middle l r) ≡ halves f n 0 n
+    pub found : f (middle l r) ≡ Some Equal → Ok (middle l r) ≡ halves f n 0 n
     found e = (turned_at (Some Equal) e).2
 
-    gone : f (middle l r) ≡ None → Err l ≡ halves f n 0 n
+    pub gone : f (middle l r) ≡ None → Err l ≡ halves f n 0 n
     gone e = (turned_at None e).2
 
-    above : f (middle l r) ≡ Some Less → {l' r' : ℕ} → l' ≡ middle l r + 1 → r' ≡ r → Left f n l' r'
+    pub above : f (middle l r) ≡ Some Less → {l' r' : ℕ} → l' ≡ middle l r + 1 → r' ≡ r → Left f n l' r'
     above e {l'} {r'} p q =
         let t = turned_at (Some Less) e in
         let s = t.1 in
         let enough = h.enough in
         record { turns = t.0; enough = omega arith; same = ap (λ (x : ℕ). halves f t.0 x r') p ∙ ap (halves f t.0 (middle l r + 1)) q ∙ t.2 }
 
-    below : f (middle l r) ≡ Some Greater → {l' r' : ℕ} → l' ≡ l → r' ≡ middle l r → Left f n l' r'
+    pub below : f (middle l r) ≡ Some Greater → {l' r' : ℕ} → l' ≡ l → r' ≡ middle l r → Left f n l' r'
     below e {l'} {r'} p q =
         let t = turned_at (Some Greater) e in
         let s = t.1 in
